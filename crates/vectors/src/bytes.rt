@@ -1,0 +1,62 @@
+// Numbers as bytes, most significant byte first.
+ghost use mathlib.Core.Path.{_≡_};
+ghost use Prim.Native.Nat.{ℕ, _+_, _*_, _≤_, _<_};
+ghost use lib.ListN.{length, take};
+ghost use lib.Seq.{sets};
+ghost use Rattle.vectors.specs.Vectors.{vector};
+ghost use Rattle.vectors.specs.Bytes.{numberAt, bytesOf, fieldsOf};
+
+fn wide(b: u8) -> u16
+    ensures { λ r. ⌜ (r ≡ b) × (r < 256) ⌝ }
+{
+    b as u16
+}
+
+// The number of two bytes that stands at i. The callers have found the place to be there.
+pub fn field(s: &[u8], i: usize) -> u16
+    requires { ⌜ i + 2 ≤ length (now s) ⌝ }
+    ensures { λ r. ⌜ r ≡ numberAt 2 (now (s .entry)) i ⌝ }
+{
+    wide(s[i]) * 256 + wide(s[i + 1])
+}
+
+// The n numbers of two bytes from place i on, and 0 above. The callers have found them to be there.
+pub fn fields(s: &[u8], i: usize, n: usize) -> [u16; 16]
+    requires { ⌜ (n ≤ 16) × (i + 2 * n ≤ length (now s)) ⌝ }
+    ensures { λ r. ⌜ r ≡ vector n (λ k. numberAt 2 (now (s .entry)) (i + 2 * k)) ⌝ }
+{
+    let mut v = [0u16; 16];
+    for k in 0..n {
+        v[k] = field(s, i + 2 * k);
+    }
+    v
+}
+
+// The number x goes to place i, in two bytes. The callers have found room there.
+pub fn put_field(out: &mut [u8], i: usize, x: u16)
+    requires { ⌜ i + 2 ≤ length (now out) ⌝ }
+    ensures { λ _. ⌜ now (out .exit) ≡ sets (now (out .entry)) i (bytesOf 2 x) ⌝ }
+{
+    out[i] = (x / 256 % 256) as u8;
+    out[i + 1] = (x % 256) as u8;
+}
+
+// The first n numbers of v go to place i and on. The callers have found room there.
+pub fn put_fields(out: &mut [u8], i: usize, n: usize, v: [u16; 16])
+    requires { ⌜ (n ≤ 16) × (i + 2 * n ≤ length (now out)) ⌝ }
+    ensures { λ _. ⌜ now (out .exit) ≡ sets (now (out .entry)) i (fieldsOf 2 (take n v)) ⌝ }
+{
+    for k in 0..n {
+        put_field(out, i + 2 * k, v[k]);
+    }
+}
+
+// The bytes of s go to place i and on. The callers have found room there.
+pub fn put_bytes(out: &mut [u8], i: usize, s: &[u8])
+    requires { ⌜ i + length (now s) ≤ length (now out) ⌝ }
+    ensures { λ _. ⌜ now (out .exit) ≡ sets (now (out .entry)) i (now (s .entry)) ⌝ }
+{
+    for k in 0..s.len() {
+        out[i + k] = s[k];
+    }
+}

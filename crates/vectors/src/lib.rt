@@ -1,0 +1,39 @@
+// Vectors of 16 numbers, one for each seat, and tests over every entry. The loops have no early exit, so that the
+// compiler makes wide code of them.
+pub mod bytes;
+
+ghost use mathlib.Core.Path.{_≡_};
+ghost use Rattle.vectors.specs.Vectors.{within, same, zeroAbove};
+
+// Whether every entry of a is at most b's.
+pub fn is_within(a: [u16; 16], b: [u16; 16]) -> bool
+    ensures { λ r. ⌜ r ≡ within a b ⌝ }
+{
+    let mut ok = true;
+    for k in 0..16 {
+        ok = ok & (a[k] <= b[k]);
+    }
+    ok
+}
+
+// Whether every entry of a is b's.
+pub fn is_same(a: [u16; 16], b: [u16; 16]) -> bool
+    ensures { λ r. ⌜ r ≡ same a b ⌝ }
+{
+    let mut ok = true;
+    for k in 0..16 {
+        ok = ok & (a[k] == b[k]);
+    }
+    ok
+}
+
+// Whether every entry above n is 0.
+pub fn is_zero_above(n: usize, v: [u16; 16]) -> bool
+    ensures { λ r. ⌜ r ≡ zeroAbove n v ⌝ }
+{
+    let mut ok = true;
+    for k in 0..16 {
+        ok = ok & ((k < n) | (v[k] == 0));
+    }
+    ok
+}
