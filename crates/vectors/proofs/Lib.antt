@@ -1,3 +1,4 @@
 pub mod Every
 pub mod Vector
 pub mod Numbers
+pub mod Tests

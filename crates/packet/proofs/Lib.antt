@@ -1,0 +1,4 @@
+pub mod Formed
+pub mod Writable
+pub mod Told
+pub mod Laid

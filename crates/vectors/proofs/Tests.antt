@@ -1,0 +1,49 @@
+-- Laws of the tests over vectors: what each says of every entry, and the other way round.
+use Prim.Native.Nat.{ℕ, _≤_, _<_}
+use mathlib.Core.Path.{_≡_, refl, sym, ap, _∙_}
+use mathlib.Core.List.{List}
+use mathlib.Core.Bool.{Bool, true, false, _||_, or-true}
+use native.Mathlib.Decide.{decLt}
+use native.Mathlib.Omega.{arith}
+use lib.Dec.{leb, ltb, eqb}
+use lib.ListN.{length, getD}
+use lib.Seq.{ext-getD}
+use borrow.Author.Tests.{lt-ltb, le-ltb, leb-true, eqb-true, le-leb, eq-eqb}
+use Rattle.vectors.specs.Vectors.{vector, within, same, zeroAbove}
+use Rattle.vectors.proofs.Every.{all-at, all-of}
+use Rattle.vectors.proofs.Vector.{vector-above, is-vector}
+
+module _ (a b : List ℕ) where
+  pub within-at : within a b ≡ true → (k : ℕ) → k < 16 → getD a k 0 ≤ getD b k 0
+  unfolding within
+  within-at e k h = leb-true _ _ (all-at _ 16 k e h)
+
+  pub within-of : ((k : ℕ) → k < 16 → getD a k 0 ≤ getD b k 0) → within a b ≡ true
+  unfolding within
+  within-of each = all-of _ 16 (λ k h. le-leb _ _ (each k h))
+
+  pub same-is : length a ≡ 16 → length b ≡ 16 → same a b ≡ true → a ≡ b
+  unfolding same
+  same-is la lb e = ext-getD 0 a b (la ∙ sym lb) (λ k h. eqb-true _ _ (all-at _ 16 k e (rw la at h)))
+
+  pub same-of : a ≡ b → same a b ≡ true
+  unfolding same
+  same-of e = all-of _ 16 (λ k h. eq-eqb _ _ (ap (λ (l : List ℕ). getD l k 0) e))
+
+module _ (n : ℕ) (v : List ℕ) where
+  pub zero-above-at : zeroAbove n v ≡ true → (k : ℕ) → n ≤ k → k < 16 → getD v k 0 ≡ 0
+  unfolding zeroAbove
+  zero-above-at e k h b = eqb-true _ _ (rw (le-ltb k n h) at (all-at _ 16 k e b))
+
+  pub zero-above-of : ((k : ℕ) → n ≤ k → k < 16 → getD v k 0 ≡ 0) → zeroAbove n v ≡ true
+  unfolding zeroAbove
+  zero-above-of each =
+      all-of _ 16
+      (λ k b.
+      elim (decLt k n) [
+        | yes less ↦ rw (lt-ltb k n less)
+        | no more ↦ rw (eq-eqb (getD v k 0) 0 (each k (omega arith) b)) (or-true (ltb k n))
+      ])
+
+pub zero-above-vector : (n : ℕ) (f : ℕ → ℕ) → zeroAbove n (vector n f) ≡ true
+zero-above-vector n f = zero-above-of n (vector n f) (vector-above n f)
