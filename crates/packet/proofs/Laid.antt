@@ -7,8 +7,11 @@ use native.Mathlib.Nat.{zero-add}
 use native.Mathlib.Omega.{arith}
 use lib.ListN.{length, getD, take, drop, length-append}
 use lib.Seq.{sets, sets-eq}
-use borrow.Author.Tests.{lt-ltb, le-ltb}
+use lib.Dec.{ltb}
+use borrow.Author.Tests.{lt-ltb, le-ltb, ltb-false}
 use Rattle.answers.specs.Answers.{firstOf}
+use Rattle.answers.specs.declared.Edit.{Edit}
+use Rattle.answers.specs.declared.Refusal.{Refusal}
 use Rattle.answers.specs.declared.Answer.{Answer}
 use Rattle.answers.specs.declared.Answer.the-variants.{Done, Refused}
 use Rattle.answers.specs.declared.Refusal.the-variants.{BodyTooLong, NotWellFormed, OutputTooShort}
@@ -85,3 +88,31 @@ module _ (kind : Kind) (header : Header) (past barrier body : List ℕ) where
         → after ≡ atStart (packetOf kind header past barrier body) out → Written kind header past barrier body out (Done (editOf header past body)) after
     unfolding writeOutput
     done-write after e a = record { answered = sym e; output = rw e a }
+
+-- ---- what an answer tells
+
+no-clash : (edit : Edit) (refusal : Refusal) → Refused refusal ≡ Done edit → ⊥
+no-clash edit refusal e = let z : _≡_ {A = ℕ} 0 1 = cc in omega arith
+
+done-tests : (long good full : Bool) (edit told : Edit) → firstOf ((BodyTooLong, long) ∷ (NotWellFormed, not good) ∷ (OutputTooShort, full) ∷ []) (Done edit) ≡ Done told
+    → (long ≡ false) × (good ≡ true) × (full ≡ false) × (told ≡ edit)
+unfolding firstOf
+done-tests true good full edit told e = absurd (no-clash told BodyTooLong e)
+done-tests false false full edit told e = absurd (no-clash told NotWellFormed e)
+done-tests false true true edit told e = absurd (no-clash told OutputTooShort e)
+done-tests false true false edit told e = (refl, refl, refl, cc)
+
+-- a write that was done
+pub record DoneWrite (kind : Kind) (header : Header) (past barrier body out : List ℕ) (edit : Edit) : Type 0 where
+  pub short : length body ≤ 200
+  pub good : writable kind header past barrier ≡ true
+  pub room : packetLength (header .n) (length body) ≤ length out
+  pub edit-is : edit ≡ editOf header past body
+  pub output-is : writeOutput kind header past barrier body out ≡ atStart (packetOf kind header past barrier body) out
+
+module _ (kind : Kind) (header : Header) (past barrier body out : List ℕ) (edit : Edit) where
+  pub done-tells : writeAnswer kind header past barrier body out ≡ Done edit → DoneWrite kind header past barrier body out edit
+  unfolding writeAnswer writeRefusals writeOutput
+  done-tells e =
+      let t = done-tests (ltb 200 (length body)) (writable kind header past barrier) (ltb (length out) (packetLength (header .n) (length body))) (editOf header past body) edit e in
+      record { short = ltb-false _ _ (t .0); good = t .1; room = ltb-false _ _ (t .2); edit-is = t .3; output-is = rw e }

@@ -53,6 +53,7 @@ module _ (packet : List ℕ) where
 pub record Told (packet : List ℕ) (reading : Reading) (heading : Heading) : Type 0 where
   pub well-formed : firstBadPoint packet ≡ 0
   pub is : reading ≡ message (kindOf packet) (headerOf packet) (pastOf packet) (barrierOf packet)
+  pub heading-is : heading ≡ headed (kindOf packet) (headerOf packet)
   pub n : heading .n ≡ seatsOf packet
   pub sender : heading .sender ≡ senderOf packet
   pub kind : heading .kind ≡ kindOf packet
@@ -78,6 +79,7 @@ told-of packet z =
     record {
       well-formed = z;
       is = refl;
+      heading-is = refl;
       n = refl;
       sender = refl;
       kind = refl;

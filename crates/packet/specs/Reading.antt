@@ -15,9 +15,12 @@ use Rattle.packet.specs.declared.ReadAnswer.{ReadAnswer}
 use Rattle.packet.specs.declared.ReadAnswer.the-variants.{Refused, Packet}
 use Rattle.packet.specs.declared.Reading.{Reading}
 
--- The kind with its header.
+-- The kind with its header, and that header again.
 abbrev pub headed : Kind → Header → Heading
 headed kind header = record { n = header .n; sender = header .sender; kind = kind }
+
+abbrev pub headerIn : Heading → Header
+headerIn heading = record { n = heading .n; sender = heading .sender }
 
 -- A refusal: both vectors are all 0.
 abbrev pub refused : Reading

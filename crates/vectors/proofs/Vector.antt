@@ -9,8 +9,8 @@ use native.Mathlib.Numerals.{add-one}
 use native.Mathlib.Decide.{ℕ-discrete, decLt}
 use native.Mathlib.Omega.{arith}
 use lib.Dec.{leb, ltb, eqb}
-use lib.ListN.{length, getD, set, replicate, length-set, length-append, List·getD-append}
-use lib.Seq.{ext-getD, getD-at, getD-set-same, getD-set-other}
+use lib.ListN.{length, getD, set, take, replicate, length-set, length-append, List·getD-append}
+use lib.Seq.{ext-getD, getD-at, getD-take, getD-set-same, getD-set-other, length-take-le}
 use borrow.Author.Tests.{lt-ltb, le-ltb, leb-true, eqb-true, le-leb, eq-eqb}
 use Rattle.vectors.specs.Vectors.{all, table, vector, within, same, zeroAbove, zeros}
 use Rattle.vectors.proofs.Every.{all-at, all-of}
@@ -85,3 +85,15 @@ module _ (n : ℕ) (f : ℕ → ℕ) where
 
   pub filled-all : (k : ℕ) (v : List ℕ) → Filled n f k v → n ≤ k → v ≡ vector n f
   filled-all k v so h = so .is ∙ rw (le-antisymm (so .low) h)
+
+-- the first n entries of a vector are the table
+pub take-vector : (n : ℕ) (f : ℕ → ℕ) → n ≤ 16 → take n (vector n f) ≡ table n f
+take-vector n f most = ext-getD 0 (take n (vector n f)) (table n f) (long ∙ sym (length-table n f)) each
+  where
+    long : length (take n (vector n f)) ≡ n
+    long = length-take-le n (vector n f) (rw length-vector most)
+
+    each : (k : ℕ) → k < length (take n (vector n f)) → getD (take n (vector n f)) k 0 ≡ getD (table n f) k 0
+    each k h =
+        let below : k < n = rw long at h in
+        getD-take n (vector n f) k 0 below ∙ vector-below n f k below (omega arith) ∙ sym (getD-table n f k below)

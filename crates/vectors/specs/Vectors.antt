@@ -1,9 +1,10 @@
 -- Vectors: lists of 16 numbers. The entry of seat k stands at index k - 1, and those above n are 0.
-use Prim.Native.Nat.{ℕ, zero, suc, _-_}
+use Prim.Native.Nat.{ℕ, zero, suc, _-_, _<_}
+use mathlib.Core.Path.{_≡_}
 use mathlib.Core.Bool.{Bool, true, false, cond, _&&_, _||_}
 use mathlib.Core.List.{List, [], _∷_, _++_}
 use lib.Dec.{leb, ltb, eqb}
-use lib.ListN.{getD, replicate}
+use lib.ListN.{length, getD, replicate}
 use Rattle.answers.specs.declared.SeatNo.{SeatNo}
 
 -- The most seats that a session has.
@@ -42,3 +43,8 @@ same a b = all seatsMost (λ k. eqb (getD a k 0) (getD b k 0))
 -- Every entry above n is 0.
 unfoldable pub zeroAbove : ℕ → List ℕ → Bool
 zeroAbove n v = all seatsMost (λ k. ltb k n || eqb (getD v k 0) 0)
+
+-- A vector of counts: 16 of them, each of 16 bits.
+pub record Counts (v : List ℕ) : Type 0 where
+  pub long : length v ≡ seatsMost
+  pub fits : (k : ℕ) → getD v k 0 < 65536
