@@ -1,0 +1,75 @@
+-- Laws of zeros: bytes that are all zero, the byte that gathers them, and zeros that are stored.
+use Prim.Native.Nat.{ℕ, _+_, _-_, _≤_, _<_}
+use mathlib.Core.Path.{_≡_, sym, ap, _∙_}
+use mathlib.Core.Bool.{true, false, _&&_}
+use mathlib.Core.List.{List, [], _∷_, _++_, append-nil}
+use native.Mathlib.Decide.{ℕ-discrete, decLt}
+use native.Mathlib.Omega.{arith}
+use lib.Bits.{bitOr, or-zero-l, or-add-and, and-le-r}
+use lib.Dec.{eqb}
+use lib.ListN.{length, getD, take, drop, replicate, length-append, length-take, length-replicate, getD-replicate, replicate-append-replicate, take-append-drop, drop-of-length-le, List·getD-eq-default}
+use lib.Seq.{ext-getD, getD-take, getD-drop, sets, sets-eq}
+use borrow.Author.Tests.{eqb-true, eq-eqb, ne-eqb}
+use Rattle.vectors.proofs.Every.{all-at, all-of, all-fails}
+use Rattle.shelf.specs.Shelf.{allZero}
+
+-- two bytes gathered are 0 exactly where both are
+pub or-is-zero : (a b : ℕ) → eqb (bitOr a b) 0 ≡ (eqb a 0 && eqb b 0)
+or-is-zero a b =
+    elim (ℕ-discrete a 0) [
+      | yes zero ↦ rw (zero, or-zero-l b)
+      | no some ↦ rw (ne-eqb a 0 some) (ne-eqb (bitOr a b) 0 (λ e. some (omega (arith, or-add-and a b, and-le-r a b))))
+    ]
+
+module _ (s : List ℕ) where
+  -- what is all zero is 0 everywhere, and the other way round
+  pub all-zero-at : (k : ℕ) → allZero s ≡ true → getD s k 0 ≡ 0
+  unfolding allZero
+  all-zero-at k e =
+      elim (decLt k (length s)) [
+        | yes inside ↦ eqb-true (getD s k 0) 0 (all-at (λ j. eqb (getD s j 0) 0) (length s) k e inside)
+        | no past ↦ List·getD-eq-default s 0 (omega arith)
+      ]
+
+  pub all-zero-of : ((k : ℕ) → k < length s → getD s k 0 ≡ 0) → allZero s ≡ true
+  unfolding allZero
+  all-zero-of each = all-of (λ j. eqb (getD s j 0) 0) (length s) (λ k h. eq-eqb (getD s k 0) 0 (each k h))
+
+  pub one-byte-not-zero : (k : ℕ) → k < length s → (getD s k 0 ≡ 0 → ⊥) → allZero s ≡ false
+  unfolding allZero
+  one-byte-not-zero k h some = all-fails (λ j. eqb (getD s j 0) 0) (length s) k h (ne-eqb (getD s k 0) 0 some)
+
+  pub all-zero-are-zeros : allZero s ≡ true → s ≡ replicate (length s) 0
+  all-zero-are-zeros e =
+      ext-getD 0 s (replicate (length s) 0) (sym (length-replicate (length s) 0)) (λ k h. all-zero-at k e ∙ sym (getD-replicate (length s) k 0 0 h))
+
+pub zeros-are-all-zero : (n : ℕ) → allZero (replicate n 0) ≡ true
+zeros-are-all-zero n = all-zero-of (replicate n 0) (λ k h. getD-replicate n k 0 0 (rw length-replicate at h))
+
+pub part-is-all-zero : (s : List ℕ) (n from : ℕ) → allZero s ≡ true → allZero (take n (drop from s)) ≡ true
+part-is-all-zero s n from e = all-zero-of (take n (drop from s)) each
+  where
+    each : (k : ℕ) → k < length (take n (drop from s)) → getD (take n (drop from s)) k 0 ≡ 0
+    each k h =
+        let less : k < n = omega (arith, length-take n (drop from s)) in
+        getD-take n (drop from s) k 0 less ∙ getD-drop from s k 0 ∙ all-zero-at s (from + k) e
+
+-- a list that is all zero from place m on is its first m numbers, and zeros to its end
+pub zeros-to-the-end : (s : List ℕ) (m : ℕ) → allZero (drop m s) ≡ true → s ≡ take m s ++ replicate (length s - length (take m s)) 0
+zeros-to-the-end s m rest =
+    let both : length (take m s) + length (drop m s) ≡ length s = sym (length-append (take m s) (drop m s)) ∙ ap length (take-append-drop m s) in
+    let many : length (drop m s) ≡ length s - length (take m s) = omega arith in
+    sym (take-append-drop m s) ∙ ap (λ (l : List ℕ). take m s ++ l) (all-zero-are-zeros (drop m s) rest ∙ ap (λ (n : ℕ). replicate n 0) many)
+
+-- ---- stored
+
+pub one-zero-more : (n : ℕ) → replicate {A = ℕ} (n + 1) 0 ≡ replicate n 0 ++ (0 ∷ [])
+one-zero-more n = sym (replicate-append-replicate n 1 0)
+
+-- zeros over the whole list
+pub zeros-stored : (l : List ℕ) → sets l 0 (replicate (length l) 0) ≡ replicate (length l) 0
+zeros-stored l =
+    let zeros : List ℕ = replicate (length l) 0 in
+    let long : length zeros ≡ length l = length-replicate (length l) 0 in
+    let past : length l ≤ 0 + length zeros = omega arith in
+    sets-eq zeros l 0 (omega arith) ∙ rw (drop-of-length-le l past) (append-nil zeros)

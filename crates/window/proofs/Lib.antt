@@ -1,0 +1,5 @@
+pub mod Bits
+pub mod Handed
+pub mod Sound
+pub mod Computed
+pub mod Edges
