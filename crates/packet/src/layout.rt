@@ -34,7 +34,7 @@ fn put_head(kind: Kind, header: Header, body: usize, out: &mut [u8])
     out[2] = body as u8;
 }
 
-// The whole packet.
+// The whole packet. The callers have found the header to be in range, the body to be short enough, and room for both.
 pub fn put_packet(
     kind: Kind,
     header: Header,

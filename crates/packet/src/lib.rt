@@ -1,6 +1,6 @@
 // The packet that carries an edit over the link: reading it, its body, and writing it (document 01, "Packet").
-mod layout;
-mod points;
+pub mod layout;
+pub mod points;
 
 use answers::Answer;
 use answers::Edit;

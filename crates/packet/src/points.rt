@@ -90,7 +90,8 @@ pub fn vectors_point(kind: Kind, sender: SeatNo, past: [u16; 16], barrier: [u16;
     }
 }
 
-fn in_range(header: Header) -> bool
+// Whether n is 1 to 16, and the sender 1 to n.
+pub fn in_range(header: Header) -> bool
     ensures { λ r. ⌜ r ≡ inRange header ⌝ }
 {
     let n = header.n;

@@ -1,5 +1,5 @@
 -- Laws of the tests over vectors: what each says of every entry, and the other way round.
-use Prim.Native.Nat.{ℕ, _≤_, _<_}
+use Prim.Native.Nat.{ℕ, _≤_, _<_, max}
 use mathlib.Core.Path.{_≡_, refl, sym, ap, _∙_}
 use mathlib.Core.List.{List}
 use mathlib.Core.Bool.{Bool, true, false, _||_, or-true}
@@ -9,9 +9,9 @@ use lib.Dec.{leb, ltb, eqb}
 use lib.ListN.{length, getD}
 use lib.Seq.{ext-getD}
 use borrow.Author.Tests.{lt-ltb, le-ltb, leb-true, eqb-true, le-leb, eq-eqb}
-use Rattle.vectors.specs.Vectors.{vector, within, same, zeroAbove}
+use Rattle.vectors.specs.Vectors.{vector, within, same, zeroAbove, maxes}
 use Rattle.vectors.proofs.Every.{all-at, all-of}
-use Rattle.vectors.proofs.Vector.{vector-above, is-vector}
+use Rattle.vectors.proofs.Vector.{length-vector, vector-below, vector-above}
 
 module _ (a b : List ℕ) where
   pub within-at : within a b ≡ true → (k : ℕ) → k < 16 → getD a k 0 ≤ getD b k 0
@@ -47,3 +47,12 @@ module _ (n : ℕ) (v : List ℕ) where
 
 pub zero-above-vector : (n : ℕ) (f : ℕ → ℕ) → zeroAbove n (vector n f) ≡ true
 zero-above-vector n f = zero-above-of n (vector n f) (vector-above n f)
+
+module _ (a b : List ℕ) where
+  pub length-maxes : length (maxes a b) ≡ 16
+  unfolding maxes
+  length-maxes = length-vector 16 _
+
+  pub maxes-at : (k : ℕ) → k < 16 → getD (maxes a b) k 0 ≡ max (getD a k 0) (getD b k 0)
+  unfolding maxes
+  maxes-at k h = vector-below 16 _ k h h

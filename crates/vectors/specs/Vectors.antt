@@ -1,5 +1,5 @@
 -- Vectors: lists of 16 numbers. The entry of seat k stands at index k - 1, and those above n are 0.
-use Prim.Native.Nat.{ℕ, zero, suc, _-_, _<_}
+use Prim.Native.Nat.{ℕ, zero, suc, _-_, _<_, max}
 use mathlib.Core.Path.{_≡_}
 use mathlib.Core.Bool.{Bool, true, false, cond, _&&_, _||_}
 use mathlib.Core.List.{List, [], _∷_, _++_}
@@ -43,6 +43,10 @@ same a b = all seatsMost (λ k. eqb (getD a k 0) (getD b k 0))
 -- Every entry above n is 0.
 unfoldable pub zeroAbove : ℕ → List ℕ → Bool
 zeroAbove n v = all seatsMost (λ k. ltb k n || eqb (getD v k 0) 0)
+
+-- The entrywise maximum.
+unfoldable pub maxes : List ℕ → List ℕ → List ℕ
+maxes a b = vector seatsMost (λ k. max (getD a k 0) (getD b k 0))
 
 -- A vector of counts: 16 of them, each of 16 bits.
 pub record Counts (v : List ℕ) : Type 0 where

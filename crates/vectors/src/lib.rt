@@ -3,7 +3,8 @@
 pub mod bytes;
 
 ghost use mathlib.Core.Path.{_≡_};
-ghost use Rattle.vectors.specs.Vectors.{within, same, zeroAbove};
+ghost use Prim.Native.Nat.{max};
+ghost use Rattle.vectors.specs.Vectors.{within, same, zeroAbove, maxes};
 
 // Whether every entry of a is at most b's.
 pub fn is_within(a: [u16; 16], b: [u16; 16]) -> bool
@@ -36,4 +37,21 @@ pub fn is_zero_above(n: usize, v: [u16; 16]) -> bool
         ok = ok & ((k < n) | (v[k] == 0));
     }
     ok
+}
+
+fn larger(a: u16, b: u16) -> u16
+    ensures { λ r. ⌜ r ≡ max a b ⌝ }
+{
+    if a < b { b } else { a }
+}
+
+// The entrywise maximum.
+pub fn max_of(a: [u16; 16], b: [u16; 16]) -> [u16; 16]
+    ensures { λ r. ⌜ r ≡ maxes a b ⌝ }
+{
+    let mut v = [0u16; 16];
+    for k in 0..16 {
+        v[k] = larger(a[k], b[k]);
+    }
+    v
 }
