@@ -71,7 +71,7 @@ pub record Told (packet : List ℕ) (reading : Reading) (heading : Heading) : Ty
   pub barrier-zero : zeroAbove (heading .n) (reading .barrier) ≡ true
   pub ordered : Ordered (heading .kind) (heading .sender) (reading .past) (reading .barrier)
 
-told-of : (packet : List ℕ) → firstBadPoint packet ≡ 0
+pub told-of : (packet : List ℕ) → firstBadPoint packet ≡ 0
     → Told packet (message (kindOf packet) (headerOf packet) (pastOf packet) (barrierOf packet)) (headed (kindOf packet) (headerOf packet))
 told-of packet z =
     let f = formed packet z in

@@ -53,8 +53,9 @@ impl Window {
         (self.ahead % 2 == 0) & self.none_above(past)
     }
 
-    // A number is marked. The caller has found it to be in the window.
-    fn mark(self, number: EditNo) -> Window
+    // A number is marked. The callers have found it to be in the window: above run, so that it has a bit, and at most 64
+    // above it, so that the bit is in the word.
+    pub fn mark(self, number: EditNo) -> Window
         requires { ⌜ (self .run < number .0) × (number .0 ≤ self .run + 64) ⌝ }
         ensures { λ r. ⌜ r ≡ marked self (number .0) ⌝ }
     {

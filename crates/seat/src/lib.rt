@@ -1,0 +1,257 @@
+// A seat of a shared session: its state, and the four steps open, send, arrive and release (document 01, "The steps").
+mod arrival;
+mod state;
+mod stock;
+mod taking;
+
+use answers::Answer;
+use answers::Edit;
+use answers::EditNo;
+use answers::Refusal;
+use answers::SeatNo;
+use arrival::settle;
+use packet::BODY_MOST;
+use packet::HEAD_LEN;
+use packet::Header;
+use packet::Kind;
+use packet::ReadAnswer;
+use packet::layout::put_packet;
+use packet::points::in_range;
+use shelf::SLOT_SIZE;
+use state::header_of;
+use state::is_sound;
+use stock::look_over;
+use taking::take;
+ghost use mathlib.Core.Path.{_≡_};
+ghost use Prim.Native.Nat.{_≤_, _<_};
+ghost use Rattle.seat.specs.State.{counting, noSeat, ownCount};
+ghost use Rattle.seat.specs.Opening.{OpenedAs};
+ghost use Rattle.seat.specs.Arriving.{Arrived};
+ghost use Rattle.seat.specs.Releasing.{Released};
+ghost use Rattle.seat.specs.Sending.{kindOf, barrierSent, pastSent, barrierAfter, sentSeat, Sent};
+
+// The highest count.
+pub const COUNT_MOST: u16 = 65535;
+
+// The state by value. Entry k - 1 of each array is seat k's.
+pub struct Seat {
+    pub n: u8,
+    pub own: SeatNo,
+    pub past: [u16; 16],
+    pub barrier: [u16; 16],
+    pub run: [u16; 16],
+    pub ahead: [u64; 16],
+}
+
+// The kind that a sender wishes for.
+pub enum Wish {
+    Ordinary,
+    Causal,
+    Usual,
+}
+
+// What a step answers, and the next state.
+pub struct Stepped {
+    pub seat: Seat,
+    pub answer: Answer,
+}
+
+// A state with all counts zero.
+fn counting_from_zero(n: u8, own: SeatNo) -> Seat
+    ensures { λ r. ⌜ r ≡ counting n own ⌝ }
+{
+    Seat {
+        n,
+        own,
+        past: [0; 16],
+        barrier: [0; 16],
+        run: [0; 16],
+        ahead: [0; 16],
+    }
+}
+
+// A state of zeros only, which is not sound.
+fn no_seat() -> Seat
+    ensures { λ r. ⌜ r ≡ noSeat ⌝ }
+{
+    counting_from_zero(0, SeatNo(0))
+}
+
+// A refusal, with the state that it hands back.
+fn refuse(seat: Seat, refusal: Refusal) -> Stepped
+    ensures { λ r. ⌜ (r .seat ≡ seat) × (r .answer ≡ Answer.Refused refusal) ⌝ }
+{
+    Stepped {
+        seat,
+        answer: Answer::Refused(refusal),
+    }
+}
+
+// The kind that is wished for: usual is ordinary.
+fn kind_of(wish: Wish) -> Kind
+    ensures { λ r. ⌜ r ≡ kindOf wish ⌝ }
+{
+    match wish {
+        Wish::Ordinary => Kind::Ordinary,
+        Wish::Causal => Kind::Causal,
+        Wish::Usual => Kind::Ordinary,
+    }
+}
+
+// How many edits the seat has sent. The caller has found the own number to be in range.
+fn own_count(seat: Seat) -> u16
+    requires { ⌜ (1 ≤ seat .own .0) × (seat .own .0 ≤ 16) ⌝ }
+    ensures { λ r. ⌜ r ≡ ownCount seat ⌝ }
+{
+    let at = (seat.own.0 - 1) as usize;
+    seat.past[at]
+}
+
+// Line 1: the barrier that the packet carries is past if causal.
+fn barrier_sent(seat: Seat, kind: Kind) -> [u16; 16]
+    ensures { λ r. ⌜ r ≡ barrierSent seat kind ⌝ }
+{
+    match kind {
+        Kind::Ordinary => seat.barrier,
+        Kind::Causal => seat.past,
+    }
+}
+
+// Line 2: past[self] rises by 1. The caller has found the own number to be in range, and room for one more edit.
+fn past_sent(seat: Seat) -> [u16; 16]
+    requires { ⌜ (1 ≤ seat .own .0) × (seat .own .0 ≤ 16) × (ownCount seat < 65535) ⌝ }
+    ensures { λ r. ⌜ r ≡ pastSent seat ⌝ }
+{
+    let at = (seat.own.0 - 1) as usize;
+    let mut past = seat.past;
+    past[at] = past[at] + 1;
+    past
+}
+
+// Line 4: barrier becomes the new past if causal.
+fn barrier_after(seat: Seat, kind: Kind, past: [u16; 16]) -> [u16; 16]
+    requires { ⌜ past ≡ pastSent seat ⌝ }
+    ensures { λ r. ⌜ r ≡ barrierAfter seat kind ⌝ }
+{
+    match kind {
+        Kind::Ordinary => seat.barrier,
+        Kind::Causal => past,
+    }
+}
+
+// The state after sending, with the new past.
+fn after_sending(seat: Seat, kind: Kind, past: [u16; 16]) -> Seat
+    requires { ⌜ past ≡ pastSent seat ⌝ }
+    ensures { λ r. ⌜ r ≡ sentSeat seat kind ⌝ }
+{
+    let barrier = barrier_after(seat, kind, past);
+    let mut next = seat;
+    next.past = past;
+    next.barrier = barrier;
+    next
+}
+
+impl Seat {
+    // Opens a seat with all counts zero, and zeroes its shelf. A refused open hands back no seat.
+    pub fn open(n: u8, own: SeatNo, shelf: &mut [u8]) -> Stepped
+        ensures { λ r. ⌜ OpenedAs n own (now (shelf .entry)) r (now (shelf .exit)) ⌝ }
+    {
+        if !in_range(Header { n, sender: own }) {
+            return refuse(no_seat(), Refusal::NoSuchSeat);
+        }
+        if !shelf::has_whole_slots(shelf) {
+            return refuse(no_seat(), Refusal::NotSound);
+        }
+        shelf::clear_all(shelf);
+        Stepped {
+            seat: counting_from_zero(n, own),
+            answer: Answer::Opened,
+        }
+    }
+
+    // Sends an edit, lines 1 to 4: its packet goes to the start of the output.
+    pub fn send(self, wish: Wish, body: &[u8], out: &mut [u8]) -> Stepped
+        ensures { λ r. ⌜ Sent self wish (now (body .entry)) (now (out .entry)) r (now (out .exit)) ⌝ }
+    {
+        if !is_sound(self) {
+            return refuse(self, Refusal::NotSound);
+        }
+        if BODY_MOST < body.len() {
+            return refuse(self, Refusal::BodyTooLong);
+        }
+        let count = own_count(self);
+        if count == COUNT_MOST {
+            return refuse(self, Refusal::CountFull);
+        }
+        let seats = self.n as usize;
+        let length = HEAD_LEN + 4 * seats + body.len();
+        if out.len() < length {
+            return refuse(self, Refusal::OutputTooShort);
+        }
+        let kind = kind_of(wish);
+        let past = past_sent(self);
+        put_packet(
+            kind,
+            header_of(self),
+            past,
+            barrier_sent(self, kind),
+            body,
+            out,
+        );
+        let sender = self.own;
+        let number = count + 1;
+        let length = length as u16;
+        Stepped {
+            seat: after_sending(self, kind, past),
+            answer: Answer::Done(Edit {
+                sender,
+                number: EditNo(number),
+                length,
+            }),
+        }
+    }
+
+    // A packet arrives: it is handed over, put on the shelf, or refused.
+    pub fn arrive(self, packet: &[u8], shelf: &mut [u8]) -> Stepped
+        ensures { λ r. ⌜ Arrived self (now (packet .entry)) (now (shelf .entry)) r (now (shelf .exit)) ⌝ }
+    {
+        let stock = look_over(self, &*shelf);
+        if !stock.sound {
+            return refuse(self, Refusal::NotSound);
+        }
+        let reading = packet::read(packet);
+        let told = reading.answer;
+        let past = reading.past;
+        let barrier = reading.barrier;
+        match told {
+            ReadAnswer::Refused => refuse(self, Refusal::NotWellFormed),
+            ReadAnswer::Packet(heading) => settle(
+                self,
+                stock,
+                heading,
+                past,
+                barrier,
+                packet,
+                shelf,
+            ),
+        }
+    }
+
+    // The ready packet on the shelf that comes first is handed over: its body goes to the output, and its slot is freed.
+    pub fn release(self, shelf: &mut [u8], out: &mut [u8]) -> Stepped
+        ensures { λ r. ⌜ Released self (now (shelf .entry)) (now (out .entry)) r (now (shelf .exit)) (now (out .exit)) ⌝ }
+    {
+        let stock = look_over(self, &*shelf);
+        if !stock.sound {
+            return refuse(self, Refusal::NotSound);
+        }
+        let first = stock.first;
+        if first == shelf.len() / SLOT_SIZE {
+            return Stepped {
+                seat: self,
+                answer: Answer::NothingReady,
+            };
+        }
+        take(self, first, shelf, out)
+    }
+}

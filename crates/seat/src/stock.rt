@@ -1,0 +1,236 @@
+// The packets on a shelf, as a seat sees them.
+use super::Seat;
+use super::state::is_ready;
+use super::state::is_sound;
+use answers::EditNo;
+use answers::SeatNo;
+use packet::HEAD_LEN;
+use packet::Heading;
+use packet::ReadAnswer;
+use shelf::SLOT_SIZE;
+use window::Window;
+ghost use mathlib.Core.Path.{_≡_};
+ghost use mathlib.Core.Bool.{true, false};
+ghost use Prim.Native.Nat.{_+_, _≤_, _<_};
+ghost use lib.ListN.{length};
+ghost use Rattle.vectors.specs.Vectors.{entry};
+ghost use Rattle.shelf.specs.Shelf.{slotSize, slots};
+ghost use Rattle.seat.specs.Stock.{packetIn, aboveOwnCount, tooFarAhead};
+ghost use Rattle.seat.specs.Survey.{windowWith, markedWith, passesBeside, keyOf, Counted, Looked, Surveyed};
+ghost use Rattle.seat.specs.Steps.{LookedOver};
+
+// Above the key of every packet.
+const NO_KEY: u32 = 4294967295;
+
+// What one look over the slots finds: whether they are sound; the numbers that are handed over or on the shelf, a word
+// for each sender, laid out as ahead is; the slot of the ready packet that comes first, and that packet's key.
+pub struct Stock {
+    pub sound: bool,
+    pub marks: [u64; 16],
+    pub first: usize,
+    pub key: u32,
+}
+
+// The part of a slot that holds its packet; empty where the slot holds none. The callers hand over a whole slot.
+pub fn packet_in(slot: &[u8]) -> &[u8]
+    requires { ⌜ length (now slot) ≡ slotSize ⌝ }
+    ensures { λ r. ⌜ now r ≡ packetIn (now (slot .entry)) ⌝ }
+{
+    let seats = (slot[1] % 16) as usize + 1;
+    let body = slot[3] as usize;
+    let end = 1 + HEAD_LEN + 4 * seats + body;
+    if slot[0] != 1 {
+        return &slot[..0];
+    }
+    if SLOT_SIZE < end {
+        return &slot[..0];
+    }
+    if !shelf::is_zero(&slot[end..]) {
+        return &slot[..0];
+    }
+    &slot[1..end]
+}
+
+// The entry of a seat, whatever its number: 0 above 16, and the first entry for 0, which is no seat.
+pub fn entry_of(v: [u16; 16], seat: SeatNo) -> u16
+    ensures { λ r. ⌜ r ≡ entry v seat ⌝ }
+{
+    if 16 < seat.0 {
+        return 0;
+    }
+    if seat.0 == 0 {
+        return v[0];
+    }
+    let at = (seat.0 - 1) as usize;
+    v[at]
+}
+
+// Refusal 16: the packet has more of this seat's edits in its past than this seat has sent.
+pub fn is_above_own_count(seat: Seat, past: [u16; 16]) -> bool
+    ensures { λ r. ⌜ r ≡ aboveOwnCount seat past ⌝ }
+{
+    let own = seat.own;
+    let own_past = seat.past;
+    entry_of(own_past, own) < entry_of(past, own)
+}
+
+// Refusal 18: the number is more than 64 above run.
+pub fn is_too_far_ahead(seat: Seat, sender: SeatNo, number: EditNo) -> bool
+    ensures { λ r. ⌜ r ≡ tooFarAhead seat sender (number .0) ⌝ }
+{
+    let run = seat.run;
+    let last = entry_of(run, sender) as u32 + 64;
+    last < number.0 as u32
+}
+
+// A sender's window, with other words in place of ahead. The callers have read the sender from a packet.
+pub fn window_with(seat: Seat, words: [u64; 16], sender: SeatNo) -> Window
+    requires { ⌜ (1 ≤ sender .0) × (sender .0 ≤ 16) ⌝ }
+    ensures { λ r. ⌜ r ≡ windowWith seat words sender ⌝ }
+{
+    let at = (sender.0 - 1) as usize;
+    Window {
+        run: seat.run[at],
+        ahead: words[at],
+    }
+}
+
+// Refusals 15 to 18 of a packet that was read, beside the numbers that are handed over or on the shelf.
+fn passes_beside(seat: Seat, words: [u64; 16], heading: Heading, past: [u16; 16]) -> bool
+    requires { ⌜ (1 ≤ heading .sender .0) × (heading .sender .0 ≤ 16) ⌝ }
+    ensures { λ r. ⌜ r ≡ passesBeside seat words heading past ⌝ }
+{
+    let sender = heading.sender;
+    let number = EditNo(entry_of(past, sender));
+    let repeated = window_with(seat, words, sender).holds(number);
+    let above = is_above_own_count(seat, past);
+    let far = is_too_far_ahead(seat, sender, number);
+    (heading.n == seat.n) & !above & !repeated & !far
+}
+
+// The words with a sender's number marked. The caller has found the number to be in the sender's window.
+fn with_mark(seat: Seat, words: [u64; 16], sender: SeatNo, number: EditNo) -> [u64; 16]
+    requires { ⌜ (1 ≤ sender .0) × (sender .0 ≤ 16) × (entry (seat .run) sender < number .0) × (number .0 ≤ entry (seat .run) sender + 64) ⌝ }
+    ensures { λ r. ⌜ r ≡ markedWith seat words sender (number .0) ⌝ }
+{
+    let at = (sender.0 - 1) as usize;
+    let window = window_with(seat, words, sender).mark(number);
+    let mut marks = words;
+    marks[at] = window.ahead;
+    marks
+}
+
+// One number for a sender and a number, lowest for the packet that comes first: by sender, then by number.
+fn key_of(sender: SeatNo, number: EditNo) -> u32
+    ensures { λ r. ⌜ r ≡ keyOf sender (number .0) ⌝ }
+{
+    sender.0 as u32 * 65536 + number.0 as u32
+}
+
+// The packet on slot i is counted in: its number is marked, and it is the first so far where it is ready and its key is
+// lower. The caller has found its number to be in the sender's window.
+fn count_in(
+    seat: Seat,
+    stock: Stock,
+    i: usize,
+    sender: SeatNo,
+    past: [u16; 16],
+    barrier: [u16; 16],
+) -> Stock
+    requires { ⌜ (1 ≤ sender .0) × (sender .0 ≤ 16) × (entry (seat .run) sender < entry past sender) × (entry past sender ≤ entry (seat .run) sender + 64) ⌝ }
+    ensures { λ r. ⌜ Counted seat stock i sender past barrier r ⌝ }
+{
+    let number = EditNo(entry_of(past, sender));
+    let words = stock.marks;
+    let marks = with_mark(seat, words, sender, number);
+    let key = key_of(sender, number);
+    if is_ready(seat, barrier) & (key < stock.key) {
+        return Stock {
+            sound: true,
+            marks,
+            first: i,
+            key,
+        };
+    }
+    Stock {
+        sound: true,
+        marks,
+        first: stock.first,
+        key: stock.key,
+    }
+}
+
+fn unsound(stock: Stock) -> Stock
+    ensures { λ r. ⌜ r .sound ≡ false ⌝ }
+{
+    let mut bad = stock;
+    bad.sound = false;
+    bad
+}
+
+// Slot i is looked at. The caller has found the slot to be there, and those before it to be sound.
+fn look(seat: Seat, shelf: &[u8], i: usize, stock: Stock) -> Stock
+    requires { ⌜ (i < slots (now shelf)) × (stock .sound ≡ true) × Looked i seat (now shelf) stock ⌝ }
+    ensures { λ r. ⌜ Looked (i + 1) seat (now (shelf .entry)) r ⌝ }
+{
+    let slot = shelf::slot(shelf, i);
+    if shelf::is_zero(slot) {
+        return stock;
+    }
+    let reading = packet::read(packet_in(slot));
+    let answer = reading.answer;
+    match answer {
+        ReadAnswer::Refused => unsound(stock),
+        ReadAnswer::Packet(heading) => {
+            let sender = heading.sender;
+            let past = reading.past;
+            let barrier = reading.barrier;
+            let marks = stock.marks;
+            if !passes_beside(seat, marks, heading, past) {
+                return unsound(stock);
+            }
+            count_in(seat, stock, i, sender, past, barrier)
+        }
+    }
+}
+
+// One look over the shelf.
+pub fn survey(seat: Seat, shelf: &[u8]) -> Stock
+    ensures { λ r. ⌜ Surveyed seat (now (shelf .entry)) r ⌝ }
+{
+    let n = shelf.len() / SLOT_SIZE;
+    let marks = seat.ahead;
+    let mut stock = Stock {
+        sound: true,
+        marks,
+        first: n,
+        key: NO_KEY,
+    };
+    for i in 0..n {
+        stock = look(seat, shelf, i, stock);
+        if !stock.sound {
+            return stock;
+        }
+    }
+    stock
+}
+
+// One look over state and shelf: not sound where the state or the shelf's length is not.
+pub fn look_over(seat: Seat, shelf: &[u8]) -> Stock
+    ensures { λ r. ⌜ LookedOver seat (now (shelf .entry)) r ⌝ }
+{
+    let marks = seat.ahead;
+    let none = Stock {
+        sound: false,
+        marks,
+        first: 0,
+        key: NO_KEY,
+    };
+    if !is_sound(seat) {
+        return none;
+    }
+    if !shelf::has_whole_slots(shelf) {
+        return none;
+    }
+    survey(seat, shelf)
+}
