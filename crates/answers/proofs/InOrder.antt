@@ -1,10 +1,10 @@
 -- Laws of refusals in their order: the first that applies is the answer, and what an answer tells of those before it.
-use Prim.Native.Nat.{ℕ}
+use Prim.Native.Nat.{ℕ, _≤_}
 use mathlib.Core.Path.{_≡_, refl, sym, _∙_}
 use mathlib.Core.Bool.{Bool, true, false}
 use mathlib.Core.List.{List, [], _∷_}
 use native.Mathlib.Omega.{arith}
-use Rattle.answers.specs.Answers.{firstOf}
+use Rattle.answers.specs.Answers.{report, firstOf}
 use Rattle.answers.specs.declared.Refusal.{Refusal}
 use Rattle.answers.specs.declared.Answer.{Answer}
 use Rattle.answers.specs.declared.Answer.the-variants.{Opened, Done, Shelved, NothingReady, Refused}
@@ -45,3 +45,11 @@ module _ (refusal : Refusal) (rest : List (Refusal × Bool)) (done : Answer) whe
 pub none-left : (done : Answer) → firstOf [] done ≡ done
 unfolding firstOf
 none-left done = refl
+
+-- a number from 10 up is a refusal's
+pub from-10-is-refused : (answer : Answer) → 10 ≤ report answer .answer → (refusal : Refusal) × (answer ≡ Refused refusal)
+from-10-is-refused Opened h = absurd (omega arith)
+from-10-is-refused (Done edit) h = absurd (omega arith)
+from-10-is-refused Shelved h = absurd (omega arith)
+from-10-is-refused NothingReady h = absurd (omega arith)
+from-10-is-refused (Refused refusal) h = (refusal, refl)

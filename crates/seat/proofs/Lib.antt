@@ -21,3 +21,5 @@ pub mod Admitting
 pub mod Hearing
 pub mod ChosenPacket
 pub mod ReleaseAnswers
+pub mod Unchanged
+pub mod Settled
