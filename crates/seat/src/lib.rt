@@ -1,5 +1,6 @@
 // A seat of a shared session: its state, and the four steps open, send, arrive and release (document 01, "The steps").
 mod arrival;
+mod sending;
 mod state;
 mod stock;
 mod taking;
@@ -13,22 +14,25 @@ use arrival::settle;
 use packet::BODY_MOST;
 use packet::HEAD_LEN;
 use packet::Header;
-use packet::Kind;
 use packet::ReadAnswer;
 use packet::layout::put_packet;
 use packet::points::in_range;
+use sending::after_sending;
+use sending::barrier_sent;
+use sending::kind_of;
+use sending::own_count;
+use sending::past_sent;
 use shelf::SLOT_SIZE;
 use state::header_of;
 use state::is_sound;
 use stock::look_over;
 use taking::take;
 ghost use mathlib.Core.Path.{_≡_};
-ghost use Prim.Native.Nat.{_≤_, _<_};
-ghost use Rattle.seat.specs.State.{counting, noSeat, ownCount};
+ghost use Rattle.seat.specs.State.{counting, noSeat};
 ghost use Rattle.seat.specs.Opening.{OpenedAs};
 ghost use Rattle.seat.specs.Arriving.{Arrived};
 ghost use Rattle.seat.specs.Releasing.{Released};
-ghost use Rattle.seat.specs.Sending.{kindOf, barrierSent, pastSent, barrierAfter, sentSeat, Sent};
+ghost use Rattle.seat.specs.Sending.{Sent};
 
 // The highest count.
 pub const COUNT_MOST: u16 = 65535;
@@ -85,70 +89,6 @@ fn refuse(seat: Seat, refusal: Refusal) -> Stepped
         seat,
         answer: Answer::Refused(refusal),
     }
-}
-
-// The kind that is wished for: usual is ordinary.
-fn kind_of(wish: Wish) -> Kind
-    ensures { λ r. ⌜ r ≡ kindOf wish ⌝ }
-{
-    match wish {
-        Wish::Ordinary => Kind::Ordinary,
-        Wish::Causal => Kind::Causal,
-        Wish::Usual => Kind::Ordinary,
-    }
-}
-
-// How many edits the seat has sent. The caller has found the own number to be in range.
-fn own_count(seat: Seat) -> u16
-    requires { ⌜ (1 ≤ seat .own .0) × (seat .own .0 ≤ 16) ⌝ }
-    ensures { λ r. ⌜ r ≡ ownCount seat ⌝ }
-{
-    let at = (seat.own.0 - 1) as usize;
-    seat.past[at]
-}
-
-// Line 1: the barrier that the packet carries is past if causal.
-fn barrier_sent(seat: Seat, kind: Kind) -> [u16; 16]
-    ensures { λ r. ⌜ r ≡ barrierSent seat kind ⌝ }
-{
-    match kind {
-        Kind::Ordinary => seat.barrier,
-        Kind::Causal => seat.past,
-    }
-}
-
-// Line 2: past[self] rises by 1. The caller has found the own number to be in range, and room for one more edit.
-fn past_sent(seat: Seat) -> [u16; 16]
-    requires { ⌜ (1 ≤ seat .own .0) × (seat .own .0 ≤ 16) × (ownCount seat < 65535) ⌝ }
-    ensures { λ r. ⌜ r ≡ pastSent seat ⌝ }
-{
-    let at = (seat.own.0 - 1) as usize;
-    let mut past = seat.past;
-    past[at] = past[at] + 1;
-    past
-}
-
-// Line 4: barrier becomes the new past if causal.
-fn barrier_after(seat: Seat, kind: Kind, past: [u16; 16]) -> [u16; 16]
-    requires { ⌜ past ≡ pastSent seat ⌝ }
-    ensures { λ r. ⌜ r ≡ barrierAfter seat kind ⌝ }
-{
-    match kind {
-        Kind::Ordinary => seat.barrier,
-        Kind::Causal => past,
-    }
-}
-
-// The state after sending, with the new past.
-fn after_sending(seat: Seat, kind: Kind, past: [u16; 16]) -> Seat
-    requires { ⌜ past ≡ pastSent seat ⌝ }
-    ensures { λ r. ⌜ r ≡ sentSeat seat kind ⌝ }
-{
-    let barrier = barrier_after(seat, kind, past);
-    let mut next = seat;
-    next.past = past;
-    next.barrier = barrier;
-    next
 }
 
 impl Seat {

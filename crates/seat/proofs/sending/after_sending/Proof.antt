@@ -1,8 +1,8 @@
 -- `after_sending` meets its contract: the state is built of its parts.
 use Rattle.seat.proofs.Sent.{sent-seat-is}
 use borrow.Author.Needs.{needs}
-use Rattle.seat.proofs.after_sending.Statement.{statement}
-use Rattle.seat.proofs.after_sending.Tie as tie
+use Rattle.seat.proofs.sending.after_sending.Statement.{statement}
+use Rattle.seat.proofs.sending.after_sending.Tie as tie
 
 barrier-after-requires : tie.Need-barrier-after-requires
 barrier-after-requires c κs = search needs
