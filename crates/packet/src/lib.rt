@@ -1,15 +1,16 @@
 // The packet that carries an edit over the link: reading it, its body, and writing it (document 01, "Packet").
-pub mod layout;
-pub mod points;
+mod layout;
+mod points;
 
 use answers::Answer;
 use answers::Edit;
 use answers::EditNo;
 use answers::Refusal;
 use answers::SeatNo;
-use layout::put_packet;
+pub use layout::put_packet;
 use points::can_write;
 use points::head_point;
+pub use points::in_range;
 use points::kind_of;
 use points::vectors_point;
 use vectors::bytes::fields;

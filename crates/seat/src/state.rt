@@ -4,7 +4,7 @@ use answers::EditNo;
 use packet::Header;
 use packet::Heading;
 use packet::Kind;
-use packet::points::in_range;
+use packet::in_range;
 use vectors::is_within;
 use vectors::is_zero_above;
 use vectors::max_of;
