@@ -4,7 +4,6 @@ use mathlib.Core.Bool.{Bool, true, false}
 use mathlib.Core.List.{List, [], _∷_}
 use Rattle.answers.specs.declared.SeatNo.{SeatNo}
 use Rattle.answers.specs.declared.EditNo.{EditNo}
-use Rattle.answers.specs.declared.Edit.{Edit}
 use Rattle.answers.specs.declared.Report.{Report}
 use Rattle.answers.specs.declared.Refusal.{Refusal}
 use Rattle.answers.specs.declared.Refusal.the-variants.{NotSound, BodyTooLong, CountFull, OutputTooShort, NotWellFormed, OtherSession, AboveOwnCount, Repeated, TooFarAhead, ShelfFull, NoSuchSeat, BarrierAbovePast}

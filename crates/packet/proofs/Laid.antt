@@ -5,20 +5,19 @@ use mathlib.Core.Bool.{Bool, true, false, not}
 use mathlib.Core.List.{List, [], _∷_, _++_}
 use native.Mathlib.Nat.{zero-add}
 use native.Mathlib.Omega.{arith}
-use lib.ListN.{length, getD, take, drop, length-append}
+use lib.ListN.{length, take, length-append}
 use lib.Seq.{sets, sets-eq}
 use lib.Dec.{ltb}
 use borrow.Author.Tests.{lt-ltb, le-ltb, ltb-false}
 use Rattle.answers.specs.Answers.{firstOf}
 use Rattle.answers.specs.declared.Edit.{Edit}
 use Rattle.answers.specs.declared.Refusal.{Refusal}
-use Rattle.answers.specs.declared.Answer.{Answer}
 use Rattle.answers.specs.declared.Answer.the-variants.{Done, Refused}
 use Rattle.answers.specs.declared.Refusal.the-variants.{BodyTooLong, NotWellFormed, OutputTooShort}
 use Rattle.vectors.specs.Bytes.{fieldsOf}
 use Rattle.vectors.proofs.Numbers.{length-fields, sets-then}
 use Rattle.packet.specs.Packet.{packetLength}
-use Rattle.packet.specs.Writing.{headOf, packetOf, writable, writeRefusals, editOf, writeAnswer, atStart, outputAfter, writeOutput, Written}
+use Rattle.packet.specs.Writing.{headOf, packetOf, writable, writeRefusals, editOf, writeAnswer, atStart, writeOutput, Written}
 use Rattle.packet.specs.declared.Kind.{Kind}
 use Rattle.packet.specs.declared.Header.{Header}
 

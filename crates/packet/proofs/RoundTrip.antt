@@ -1,32 +1,30 @@
 -- Reading undoes writing, and writing undoes reading (demand 2).
-use Prim.Native.Nat.{ℕ, _+_, _*_, _-_, _/_, _%_, _^_, _≤_, _<_}
+use Prim.Native.Nat.{ℕ, _+_, _*_, _-_, _/_, _%_, _≤_, _<_}
 use mathlib.Core.Path.{_≡_, refl, sym, ap, _∙_}
-use mathlib.Core.Bool.{Bool, true, false, cond}
+use mathlib.Core.Bool.{true}
 use mathlib.Core.List.{List, [], _∷_, _++_, append-assoc}
 use native.Mathlib.Decide.{ℕ-discrete}
-use native.Mathlib.Nat.{add-zero}
 use native.Mathlib.Omega.{arith}
 use lib.ListN.{length, getD, take, drop, length-append, length-drop, take-append-drop}
 use lib.Seq.{getD-take, length-take-le, take-at, drop-at, drop-drop, take-add}
 use borrow.Author.Tests.{eq-eqb, ne-eqb}
 use Rattle.answers.specs.Answers.{editNo}
 use Rattle.answers.specs.declared.Edit.{Edit}
-use Rattle.answers.specs.declared.Answer.{Answer}
 use Rattle.answers.specs.declared.Answer.the-variants.{Done}
-use Rattle.vectors.specs.Vectors.{table, vector, entry, Counts}
+use Rattle.vectors.specs.Vectors.{entry, Counts}
 use Rattle.vectors.specs.Bytes.{numberAt, fieldsOf, Bytes}
 use Rattle.vectors.proofs.Vector.{is-vector, take-vector}
 use Rattle.vectors.proofs.Numbers.{length-fields, field-written, fields-read}
 use Rattle.vectors.proofs.Tests.{zero-above-at, zero-above-vector}
 use Rattle.packet.specs.Packet.{versionOf, seatsOf, senderOf, kindBit, kindOf, zeroBitsOf, bodyLengthOf, pastOf, barrierOf, bodyAt, packetLength, vectorsPoint, firstBadPoint}
 use Rattle.packet.specs.Reading.{message, headerOf, headerIn, readOf, bodyOf}
-use Rattle.packet.specs.Writing.{bitOf, headOf, packetOf, inRange, writable, editOf, writeAnswer, writeOutput, atStart}
+use Rattle.packet.specs.Writing.{bitOf, headOf, packetOf, writable, editOf, writeAnswer, writeOutput, atStart}
 use Rattle.packet.specs.declared.Kind.{Kind}
 use Rattle.packet.specs.declared.Kind.the-variants.{Ordinary, Causal}
 use Rattle.packet.specs.declared.Header.{Header}
 use Rattle.packet.specs.declared.Heading.{Heading}
 use Rattle.packet.specs.declared.ReadAnswer.the-variants.{Packet}
-use Rattle.packet.proofs.Formed.{Head, Ordered, Formed, formed, well, vectors-have, vectors-pass}
+use Rattle.packet.proofs.Formed.{Head, Formed, formed, well, vectors-have, vectors-pass}
 use Rattle.packet.proofs.Told.{told, read-formed, body-formed}
 use Rattle.packet.proofs.Writable.{InRange, in-range, range-holds, Writable, can-be-written, writable-holds}
 use Rattle.packet.proofs.Laid.{length-packet, answer-0, done-tells}

@@ -1,26 +1,21 @@
 -- Reading as plain facts: what it answers in each case, and what a caller knows once it has matched on the answer.
-use Prim.Native.Nat.{ℕ, _+_, _*_, _-_, _≤_, _<_}
+use Prim.Native.Nat.{ℕ, _-_, _≤_}
 use mathlib.Core.Path.{_≡_, refl, sym, ap, _∙_}
-use mathlib.Core.Bool.{Bool, true, false}
+use mathlib.Core.Bool.{true}
 use mathlib.Core.List.{List, []}
 use native.Mathlib.Decide.{ℕ-discrete}
 use native.Mathlib.Omega.{arith}
-use lib.ListN.{length, getD, drop, length-drop}
+use lib.ListN.{length, drop}
 use borrow.Author.Tests.{eq-eqb, ne-eqb}
-use Rattle.answers.specs.declared.SeatNo.{SeatNo}
-use Rattle.vectors.specs.Vectors.{entry, zeroAbove}
-use Rattle.vectors.specs.Bytes.{Bytes}
+use Rattle.vectors.specs.Vectors.{zeroAbove}
 use Rattle.vectors.proofs.Vector.{length-vector}
 use Rattle.vectors.proofs.Tests.{zero-above-vector}
-use Rattle.packet.specs.Packet.{seatsOf, senderOf, kindOf, bodyLengthOf, pastOf, barrierOf, bodyAt, packetLength, lessOne, headPoint, vectorsPoint, firstBadPoint}
+use Rattle.packet.specs.Packet.{seatsOf, senderOf, kindOf, bodyLengthOf, pastOf, barrierOf, bodyAt, packetLength, headPoint, vectorsPoint, firstBadPoint}
 use Rattle.packet.specs.Reading.{refused, message, headerOf, headed, readOf, bodyOf}
-use Rattle.packet.specs.declared.Kind.{Kind}
-use Rattle.packet.specs.declared.Kind.the-variants.{Causal}
 use Rattle.packet.specs.declared.Heading.{Heading}
-use Rattle.packet.specs.declared.ReadAnswer.{ReadAnswer}
 use Rattle.packet.specs.declared.ReadAnswer.the-variants.{Refused, Packet}
 use Rattle.packet.specs.declared.Reading.{Reading}
-use Rattle.packet.proofs.Formed.{Head, Ordered, Formed, formed, well, bad-head, bad-vectors}
+use Rattle.packet.proofs.Formed.{Ordered, formed, bad-head, bad-vectors}
 
 -- ---- each case
 

@@ -4,7 +4,6 @@ use mathlib.Core.Bool.{cond}
 use mathlib.Core.List.{List, []}
 use lib.ListN.{drop}
 use Rattle.answers.specs.Answers.{refusalNumber}
-use Rattle.answers.specs.declared.SeatNo.{SeatNo}
 use Rattle.answers.specs.declared.Refusal.the-variants.{NotWellFormed}
 use Rattle.vectors.specs.Vectors.{zeros}
 use Rattle.packet.specs.Packet.{seatsOf, senderOf, kindOf, pastOf, barrierOf, bodyAt, wellFormed}

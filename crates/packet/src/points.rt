@@ -9,7 +9,6 @@ use vectors::is_within;
 use vectors::is_zero_above;
 ghost use mathlib.Core.Path.{_≡_};
 ghost use Prim.Native.Nat.{_≤_, _<_, _-_};
-ghost use lib.ListN.{getD};
 ghost use Rattle.vectors.specs.Vectors.{entry};
 ghost use Rattle.packet.specs.Packet.{kindBit, headPoint, vectorsPoint, lessOne, pointSeven};
 ghost use Rattle.packet.specs.Writing.{inRange, writable};

@@ -7,7 +7,7 @@ use native.Mathlib.Decide.{ℕ-discrete, decLt}
 use native.Mathlib.Omega.{arith}
 use borrow.Author.Tests.{not-false}
 use lib.ListN.{getD, length-set, List·getD-eq-default}
-use Rattle.vectors.specs.Vectors.{entry, zeroAbove, within, maxes, Counts}
+use Rattle.vectors.specs.Vectors.{entry, zeroAbove, maxes, Counts}
 use Rattle.vectors.proofs.Tests.{within-at, zero-above-at, length-maxes, maxes-at}
 use Rattle.window.specs.Window.{handedOver, soundWindow, SoundWindow}
 use Rattle.window.specs.declared.Window.{Window}

@@ -1,14 +1,12 @@
 -- A well formed packet that meets a sound seat and shelf: its answer, and what it tells.
-use Prim.Native.Nat.{ℕ, _+_, _*_, _-_, _≤_, _<_}
+use Prim.Native.Nat.{ℕ, _+_, _-_, _≤_, _<_}
 use mathlib.Core.Path.{_≡_, refl, sym, ap, _∙_}
-use mathlib.Core.Bool.{Bool, true, false, not, _&&_, _||_, true≢false}
+use mathlib.Core.Bool.{Bool, true, false, not, _||_, true≢false}
 use mathlib.Core.List.{List}
-use native.Mathlib.Omega.{arith}
-use lib.ListN.{length, length-drop}
+use lib.ListN.{length}
 use lib.Arith.{lt-of-le-ne}
-use lib.Dec.{eqb}
 use borrow.Author.Tests.{eq-eqb, ne-eqb, ltb-false}
-use Rattle.answers.specs.Answers.{editNo, firstOf}
+use Rattle.answers.specs.Answers.{firstOf}
 use Rattle.answers.specs.declared.Edit.{Edit}
 use Rattle.answers.specs.declared.Refusal.the-variants.{NotSound, NotWellFormed}
 use Rattle.answers.specs.declared.Answer.{Answer}
@@ -19,27 +17,26 @@ use Rattle.vectors.specs.Vectors.{entry}
 use Rattle.vectors.proofs.Every.{and-both}
 use Rattle.window.specs.Window.{handed, noneAbove}
 use Rattle.window.proofs.Handed.{not-handed-is-above-run}
-use Rattle.window.proofs.Sound.{sound-has-none-above, sound-passes}
-use Rattle.packet.specs.Packet.{seatsOf, senderOf, kindOf, pastOf, barrierOf, bodyAt, firstBadPoint}
-use Rattle.packet.specs.Reading.{headerOf, message, readOf, bodyOf}
+use Rattle.packet.specs.Packet.{senderOf, kindOf, pastOf, barrierOf, firstBadPoint}
+use Rattle.packet.specs.Reading.{headerOf, message, readOf}
 use Rattle.packet.specs.declared.Heading.{Heading}
 use Rattle.packet.specs.declared.ReadAnswer.the-variants.{Packet}
 use Rattle.packet.specs.declared.Reading.{Reading}
-use Rattle.packet.proofs.Told.{Told, told, told-of, body-formed}
+use Rattle.packet.proofs.Told.{Told, told, told-of}
 use Rattle.shelf.specs.Shelf.{slots, isFree, slotOf, laid, lowestFree}
 use Rattle.shelf.proofs.Lowest.{lowest-is-lowest}
 use Rattle.seat.specs.State.{windowOf, soundState, SoundState}
-use Rattle.seat.specs.Stock.{numberOf, isHanded, onShelf, soundShelf}
+use Rattle.seat.specs.Stock.{numberOf, soundShelf}
 use Rattle.seat.specs.HandingOver.{handOver}
-use Rattle.seat.specs.Sending.{seatAfter}
-use Rattle.seat.specs.Arriving.{headingOf, soundBoth, admissionRefusals, repeats, arriveRefusals, editHanded, admittedAnswer, arriveAnswer, shelfAfter, Arrived}
-use Rattle.seat.specs.Survey.{windowWith, Surveyed}
+use Rattle.seat.specs.Arriving.{headingOf, soundBoth, admissionRefusals, repeats, arriveRefusals, editHanded, admittedAnswer, arriveAnswer, Arrived}
+use Rattle.seat.specs.Survey.{windowWith}
 use Rattle.seat.specs.Steps.{LookedOver, Heard}
 use Rattle.seat.specs.declared.Seat.{Seat}
 use Rattle.seat.specs.declared.Stepped.{Stepped}
 use Rattle.seat.specs.declared.stock.Stock.{Stock}
 use Rattle.seat.proofs.Admitting.{admission-passed, shelved-tells}
 use Rattle.seat.proofs.Sound.{sound-says}
+use Rattle.seat.proofs.WellRead.{Sizes, carried, read-sizes, carried-is, marks-are-low}
 
 or-neither : (a b : Bool) → (a || b) ≡ false → (a ≡ false) × (b ≡ false)
 or-neither true b e = (e, absurd (true≢false e))
@@ -54,10 +51,6 @@ pub heard-goes-on : (seat : Seat) (shelf packet : List ℕ) → soundBoth seat s
 unfolding arriveAnswer arriveRefusals
 heard-goes-on seat shelf packet sound well = goes-on NotSound _ _ _ (ap not sound) ∙ goes-on NotWellFormed _ _ _ (ap not (eq-eqb _ _ well))
 
--- the body's length, by the packet's
-pub body-length : (packet : List ℕ) → firstBadPoint packet ≡ 0 → length (bodyOf packet) ≡ length packet - bodyAt (seatsOf packet)
-body-length packet well = ap length (body-formed packet well) ∙ length-drop (bodyAt (seatsOf packet)) packet
-
 module _ (seat : Seat) (shelf : List ℕ) (stock : Stock) (packet : List ℕ) (heading : Heading) (past barrier : List ℕ)
     (h : Heard seat shelf stock packet heading past barrier) where
   pub heard-told : Told packet (message (kindOf packet) (headerOf packet) (pastOf packet) (barrierOf packet)) (headingOf packet)
@@ -66,24 +59,8 @@ module _ (seat : Seat) (shelf : List ℕ) (stock : Stock) (packet : List ℕ) (h
   pub heard-state : SoundState seat
   heard-state = sound-says seat (and-both (soundState seat) (soundShelf seat shelf) (h .sound) .0)
 
-  -- ranges and lengths of a packet that was heard
-  pub record Sizes : Type 0 where
-    pub sender-low : 1 ≤ heading .sender .0
-    pub sender-high : heading .sender .0 ≤ 16
-    pub seats-high : heading .n ≤ 16
-    pub body-inside : bodyAt (heading .n) ≤ length packet
-    pub short : length packet ≤ 267
-
-  pub heard-sizes : Sizes
-  heard-sizes =
-      let t = heard-told in
-      record {
-        sender-low = rw (h .heading-is) (t .sender-low);
-        sender-high = rw (h .heading-is) (omega arith);
-        seats-high = rw (h .heading-is) (omega arith);
-        body-inside = rw (h .heading-is) (omega (arith, t .exact));
-        short = omega (arith, t .exact, t .body-short, t .seats-high);
-      }
+  pub heard-sizes : Sizes heading packet
+  heard-sizes = read-sizes packet heading (h .well-formed) (h .heading-is)
 
   -- what the words say is what refusal 17 asks
   repeats-is : handed (windowWith seat (stock .marks) (heading .sender)) (entry past (heading .sender)) ≡ repeats seat shelf packet
@@ -91,25 +68,19 @@ module _ (seat : Seat) (shelf : List ℕ) (stock : Stock) (packet : List ℕ) (h
       h .surveyed .marks-are (h .sound-stock) (heading .sender) (entry past (heading .sender)) (heard-sizes .sender-low) (heard-sizes .sender-high)
       ∙ rw (h .heading-is, h .past-is)
 
-  edit-is : _≡_ {A = Edit} (record { sender = heading .sender; number = editNo (entry past (heading .sender)); length = length packet - bodyAt (heading .n) }) (editHanded packet)
-  edit-is = rw (h .heading-is, h .past-is, body-length packet (h .well-formed))
-
   pub heard-answer : (answer : Answer) (repeated : Bool) (edit : Edit)
-      → edit ≡ record { sender = heading .sender; number = editNo (entry past (heading .sender)); length = length packet - bodyAt (heading .n) }
+      → edit ≡ carried heading past (length packet)
       → repeated ≡ handed (windowWith seat (stock .marks) (heading .sender)) (edit .number .0)
       → answer ≡ firstOf (admissionRefusals seat heading past repeated) (admittedAnswer seat shelf heading past barrier edit)
       → answer ≡ arriveAnswer seat shelf packet
   heard-answer answer repeated edit e r a =
-      let same : edit ≡ editHanded packet = e ∙ edit-is in
+      let same : edit ≡ editHanded packet = e ∙ carried-is packet heading (h .well-formed) (h .heading-is) past (h .past-is) in
       let again : repeated ≡ repeats seat shelf packet = r ∙ ap (λ (x : Edit). handed (windowWith seat (stock .marks) (heading .sender)) (x .number .0)) e ∙ repeats-is in
       a ∙ (λ i. firstOf (admissionRefusals seat (h .heading-is i) (h .past-is i) (again i)) (admittedAnswer seat shelf (h .heading-is i) (h .past-is i) (h .barrier-is i) (same i)))
       ∙ sym (heard-goes-on seat shelf packet (h .sound) (h .well-formed))
 
   pub heard-none-above : entry (seat .past) (heading .sender) ≤ 65535 → noneAbove 65535 (windowOf seat (heading .sender)) ≡ true
-  heard-none-above fits =
-      let z = heard-sizes in
-      sound-has-none-above (entry (seat .past) (heading .sender)) 65535 (windowOf seat (heading .sender))
-      (sound-passes (entry (seat .past) (heading .sender)) (windowOf seat (heading .sender)) (heard-state .windows (heading .sender .0 - 1) (omega arith))) fits
+  heard-none-above fits = let z = heard-sizes in marks-are-low seat (heading .sender) heard-state (z .sender-low) (z .sender-high) fits
 
   -- ---- what an answer tells
 

@@ -18,6 +18,7 @@ pub mod Beside
 pub mod Looked
 pub mod LookedOver
 pub mod Admitting
+pub mod WellRead
 pub mod Hearing
 pub mod ChosenPacket
 pub mod ReleaseAnswers

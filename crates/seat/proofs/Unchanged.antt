@@ -1,11 +1,9 @@
 -- Every answer number from 10 up leaves state, shelf and output unchanged; a refused open hands back no seat.
 use Prim.Native.Nat.{ℕ, _≤_}
-use mathlib.Core.Path.{_≡_, refl, sym, ap, _∙_}
+use mathlib.Core.Path.{_≡_, sym, _∙_}
 use mathlib.Core.List.{List}
 use Rattle.answers.specs.Answers.{report}
 use Rattle.answers.specs.declared.SeatNo.{SeatNo}
-use Rattle.answers.specs.declared.Refusal.{Refusal}
-use Rattle.answers.specs.declared.Answer.{Answer}
 use Rattle.answers.specs.declared.Answer.the-variants.{Refused}
 use Rattle.answers.proofs.InOrder.{from-10-is-refused}
 use Rattle.seat.specs.State.{noSeat}

@@ -3,7 +3,7 @@ use Prim.Native.Nat.{ℕ, _<_}
 use mathlib.Core.Path.{_≡_}
 use mathlib.Core.Bool.{true}
 use mathlib.Core.List.{List}
-use Rattle.packet.specs.Packet.{kindOf, pastOf, barrierOf, firstBadPoint}
+use Rattle.packet.specs.Packet.{pastOf, barrierOf, firstBadPoint}
 use Rattle.packet.specs.declared.Heading.{Heading}
 use Rattle.shelf.specs.Shelf.{slots}
 use Rattle.seat.specs.Stock.{packetAt}

@@ -16,20 +16,13 @@ use packet::HEAD_LEN;
 use packet::Heading;
 use shelf::SLOT_SIZE;
 ghost use mathlib.Core.Path.{_≡_};
-ghost use mathlib.Core.Bool.{true, cond};
-ghost use Prim.Native.Nat.{_+_, _*_, _-_, _≤_, _<_};
+ghost use Prim.Native.Nat.{_+_, _*_, _-_, _≤_};
 ghost use lib.ListN.{length};
 ghost use Rattle.answers.specs.Answers.{editNo, firstOf};
 ghost use Rattle.vectors.specs.Vectors.{entry};
-ghost use Rattle.window.specs.Window.{handed};
 ghost use Rattle.packet.specs.Packet.{bodyAt};
-ghost use Rattle.shelf.specs.Shelf.{slots};
-ghost use Rattle.seat.specs.HandingOver.{ready};
-ghost use Rattle.seat.specs.Stock.{aboveOwnCount, tooFarAhead};
-ghost use Rattle.seat.specs.Arriving.{admissionRefusals, readyAnswer, waitAnswer, admittedAnswer, Arrived};
-ghost use Rattle.seat.specs.Releasing.{takeRefusals, Released};
-ghost use Rattle.seat.specs.Survey.{windowWith};
-ghost use Rattle.seat.specs.Steps.{Heard, Chosen};
+ghost use Rattle.seat.specs.Arriving.{admissionRefusals, admittedAnswer, Arrived};
+ghost use Rattle.seat.specs.Steps.{Heard};
 
 // The edit that a packet of some length carries, with its body's length.
 pub fn edit_in(heading: Heading, past: [u16; 16], packet: usize) -> Edit

@@ -12,7 +12,6 @@ use packet::HEAD_LEN;
 use packet::Heading;
 use packet::ReadAnswer;
 use vectors::bytes::put_bytes;
-ghost use mathlib.Core.Path.{_≡_};
 ghost use Rattle.seat.specs.Releasing.{Released};
 ghost use Rattle.seat.specs.Steps.{Chosen, ChosenRead};
 

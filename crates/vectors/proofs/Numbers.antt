@@ -3,15 +3,14 @@
 use Prim.Native.Nat.{ℕ, zero, suc, _+_, _*_, _/_, _%_, _^_, _≤_, _<_}
 use mathlib.Core.Path.{_≡_, refl, sym, ap, ap₂, _∙_}
 use mathlib.Core.List.{List, [], _∷_, _++_, append-assoc, append-nil}
-use native.Mathlib.Nat.{add-zero, add-suc, suc-add, zero-add, add-comm, add-assoc, mul-zero, mul-suc, mul-le-mul-left, pow-suc, mod-one, mod-eq-of-lt, le-antisymm, le-of-suc-le-suc, not-suc-le-zero}
+use native.Mathlib.Nat.{add-zero, add-suc, suc-add, zero-add, add-comm, mul-zero, mul-suc, mul-le-mul-left, pow-suc, mod-one, mod-eq-of-lt, le-antisymm, le-of-suc-le-suc, not-suc-le-zero}
 use native.Mathlib.Numerals.{add-one}
 use native.Mathlib.Omega.{arith}
 use lib.Arith.{mod-mul, digits-div, digits-mod}
 use lib.ListN.{length, getD, set, take, drop, length-append, List·getD-append}
-use lib.Seq.{sets, length-sets, length-take-le, take-suc, take-add, take-at, drop-at, drop-drop, drop-cons, getD-take, getD-drop, getD-at, getD-append-add}
+use lib.Seq.{sets, length-sets, length-take-le, take-suc, take-add, take-at, drop-at, drop-drop, getD-take, getD-drop, getD-at, getD-append-add}
 use Rattle.vectors.specs.Vectors.{table}
 use Rattle.vectors.specs.Bytes.{numberAt, bytesOf, fieldsOf, Bytes}
-use Rattle.vectors.proofs.Vector.{length-table, getD-table}
 
 -- ---- lengths
 

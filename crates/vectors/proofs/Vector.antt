@@ -1,19 +1,18 @@
 -- Laws of vectors: their entries, two that agree everywhere, and the loop that fills one.
 use Prim.Native.Nat.{ℕ, zero, suc, _+_, _≤_, _<_}
 use mathlib.Core.Path.{_≡_, refl, sym, ap, _∙_}
-use mathlib.Core.List.{List, [], _∷_, _++_}
-use mathlib.Core.Bool.{Bool, true, false, cond, _||_}
+use mathlib.Core.List.{List, [], _∷_}
+use mathlib.Core.Bool.{cond}
 use mathlib.Core.Logic.{⊎-elim}
 use native.Mathlib.Nat.{not-suc-le-zero, le-of-suc-le-suc, eq-or-lt-of-le, le-antisymm}
 use native.Mathlib.Numerals.{add-one}
 use native.Mathlib.Decide.{ℕ-discrete, decLt}
 use native.Mathlib.Omega.{arith}
-use lib.Dec.{leb, ltb, eqb}
+use lib.Dec.{ltb}
 use lib.ListN.{length, getD, set, take, replicate, length-set, length-append, List·getD-append}
 use lib.Seq.{ext-getD, getD-at, getD-take, getD-set-same, getD-set-other, length-take-le}
-use borrow.Author.Tests.{lt-ltb, le-ltb, leb-true, eqb-true, le-leb, eq-eqb}
-use Rattle.vectors.specs.Vectors.{all, table, vector, within, same, zeroAbove, zeros}
-use Rattle.vectors.proofs.Every.{all-at, all-of}
+use borrow.Author.Tests.{lt-ltb, le-ltb}
+use Rattle.vectors.specs.Vectors.{table, vector}
 
 pub length-table : (n : ℕ) (f : ℕ → ℕ) → length (table n f) ≡ n
 unfolding table

@@ -1,7 +1,7 @@
 -- Vectors: lists of 16 numbers. The entry of seat k stands at index k - 1, and those above n are 0.
 use Prim.Native.Nat.{ℕ, zero, suc, _-_, _<_, max}
 use mathlib.Core.Path.{_≡_}
-use mathlib.Core.Bool.{Bool, true, false, cond, _&&_, _||_}
+use mathlib.Core.Bool.{Bool, true, cond, _&&_, _||_}
 use mathlib.Core.List.{List, [], _∷_, _++_}
 use lib.Dec.{leb, ltb, eqb}
 use lib.ListN.{length, getD, replicate}

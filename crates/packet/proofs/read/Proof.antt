@@ -1,5 +1,4 @@
 -- `read` meets its contract: refused where a point of the head or of the vectors fails, else what the fields say.
-use Prim.Native.Nat.{_≤_}
 use mathlib.Core.Path.{_≡_, sym, _∙_}
 use native.Mathlib.Omega.{arith}
 use denote.Ref.{now}

@@ -1,12 +1,11 @@
 -- `write` meets its contract: each way out is a law of writing's answers.
-use Prim.Native.Nat.{_+_, _*_, _≤_}
-use mathlib.Core.Path.{_≡_, refl, sym, ap, _∙_}
+use Prim.Native.Nat.{_≤_}
+use mathlib.Core.Path.{_≡_, sym, _∙_}
 use mathlib.Core.Bool.{true}
 use native.Mathlib.Omega.{arith}
 use borrow.Author.Tests.{not-true, not-false}
 use denote.Ref.{now}
 use lib.ListN.{length}
-use Rattle.packet.specs.Packet.{packetLength}
 use Rattle.packet.specs.Writing.{writable}
 use Rattle.packet.proofs.Laid.{at-start, answer-11, answer-14, answer-13, answer-0, refused-write, done-write}
 use Rattle.packet.proofs.Writable.{InRange, in-range, can-be-written}

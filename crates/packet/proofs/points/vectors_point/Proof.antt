@@ -1,11 +1,10 @@
 -- `vectors_point` meets its contract: each way out is a law of points 7 and 8.
 use mathlib.Core.Path.{_≡_, sym, ap, _∙_}
-use mathlib.Core.Bool.{Bool, true}
+use mathlib.Core.Bool.{true}
 use native.Mathlib.Omega.{arith}
 use borrow.Author.Tests.{not-true, not-false}
 use Rattle.vectors.specs.Vectors.{same}
-use Rattle.packet.specs.Packet.{pointSeven, vectorsPoint}
-use Rattle.packet.specs.declared.Kind.{Kind}
+use Rattle.packet.specs.Packet.{pointSeven}
 use Rattle.packet.proofs.Formed.{point-seven, vectors-7, vectors-8, vectors-ordinary, vectors-causal}
 use borrow.Author.Needs.{needs}
 use Rattle.packet.proofs.points.vectors_point.Statement.{statement}

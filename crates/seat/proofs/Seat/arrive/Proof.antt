@@ -1,7 +1,6 @@
 -- `arrive` meets its contract.
-use mathlib.Core.Path.{_≡_, refl, sym, ap, _∙_}
+use mathlib.Core.Path.{sym, _∙_}
 use borrow.Author.Tests.{not-true, not-false}
-use denote.Ref.{now}
 use Rattle.packet.proofs.Told.{told-refused}
 use Rattle.seat.proofs.Hearing.{refused-10, refused-14, heard}
 use borrow.Author.Needs.{needs}

@@ -1,8 +1,6 @@
 -- `release` meets its contract.
-use mathlib.Core.Path.{_≡_, refl, sym, ap, _∙_}
-use native.Mathlib.Omega.{arith}
+use mathlib.Core.Path.{sym, _∙_}
 use borrow.Author.Tests.{not-true, not-false}
-use denote.Ref.{now}
 use lib.Arith.{lt-of-le-ne}
 use Rattle.seat.proofs.Chosen.{chosen-is-at-most-slots}
 use Rattle.seat.proofs.ReleaseAnswers.{not-sound-answers-10, none-ready-answers-2, refused-release, idle-release}

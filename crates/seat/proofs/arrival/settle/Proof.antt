@@ -1,20 +1,20 @@
 -- `settle` meets its contract: the answer is that of the definition, and each answer leaves what it should.
 use Prim.Native.Nat.{ℕ, _-_, _≤_}
-use mathlib.Core.Path.{_≡_, refl, sym, ap, _∙_}
+use mathlib.Core.Path.{_≡_, sym, ap, _∙_}
 use native.Mathlib.Omega.{arith}
 use denote.Ref.{now}
 use mir.Val.{Fits}
 use mir.Syntax.{w16}
-use lib.ListN.{length, getD}
+use lib.ListN.{getD}
 use Rattle.answers.specs.declared.Edit.{Edit}
 use Rattle.answers.proofs.InOrder.{done-is-no-refusal}
 use Rattle.window.specs.Window.{handed}
 use Rattle.window.specs.declared.Window.{Window}
 use Rattle.shelf.specs.Shelf.{slotOf, laid}
-use Rattle.packet.specs.Packet.{pastOf, barrierOf}
 use Rattle.seat.specs.HandingOver.{handOver}
-use Rattle.seat.specs.Arriving.{headingOf, arriveAnswer}
-use Rattle.seat.proofs.Hearing.{Sizes, heard-sizes, heard-answer, heard-none-above, heard-in-window, heard-free, arrived-done, arrived-shelved, arrived-refused, arrived-opened, arrived-idle}
+use Rattle.seat.specs.Arriving.{arriveAnswer}
+use Rattle.seat.proofs.WellRead.{Sizes}
+use Rattle.seat.proofs.Hearing.{heard-sizes, heard-answer, heard-none-above, heard-in-window, heard-free, arrived-done, arrived-shelved, arrived-refused, arrived-opened, arrived-idle}
 use borrow.Author.Needs.{needs}
 use Rattle.seat.proofs.arrival.settle.Statement.{statement}
 use Rattle.seat.proofs.arrival.settle.Tie as tie
@@ -22,7 +22,7 @@ use Rattle.seat.proofs.arrival.settle.Tie as tie
 count-fits : (c : tie.Start) → Fits w16 (getD (c .args .seat .past) (c .args .heading .sender .0 - 1) 0)
 count-fits c = search needs
 
-sizes : (c : tie.Start) → Sizes (c .args .seat) (now (c .args .shelf)) (c .args .stock) (now (c .args .packet)) (c .args .heading) (c .args .past) (c .args .barrier) (c .pre)
+sizes : (c : tie.Start) → Sizes (c .args .heading) (now (c .args .packet))
 sizes c = heard-sizes _ _ _ _ _ _ _ (c .pre)
 
 answer-is : (c : tie.After-judged) → let a = c .before .before .before .before .before .before .before .before .before .before .args in

@@ -1,6 +1,6 @@
 -- `hand_out` meets its contract: each way out is a law of a release's answers.
-use Prim.Native.Nat.{ℕ, _+_, _*_, _-_, _≤_, _<_}
-use mathlib.Core.Path.{_≡_, refl, sym, ap, _∙_}
+use Prim.Native.Nat.{ℕ, _-_, _≤_}
+use mathlib.Core.Path.{_≡_, sym, ap, _∙_}
 use mathlib.Core.List.{List}
 use native.Mathlib.Nat.{le-of-eq}
 use native.Mathlib.Omega.{arith}
@@ -9,17 +9,14 @@ use mir.Val.{Fits}
 use mir.Syntax.{w16}
 use lib.ListN.{length, getD, take, drop, length-drop}
 use lib.Seq.{sets, take-all}
-use Rattle.answers.specs.Answers.{editNo}
-use Rattle.answers.specs.declared.Edit.{Edit}
-use Rattle.vectors.specs.Vectors.{entry}
-use Rattle.packet.specs.declared.Heading.{Heading}
 use Rattle.packet.specs.Packet.{bodyAt, pastOf, barrierOf}
 use Rattle.packet.specs.Reading.{bodyOf}
 use Rattle.shelf.proofs.Slots.{length-slotAt}
 use Rattle.seat.specs.HandingOver.{handOver, barrierAbovePast}
 use Rattle.seat.specs.Arriving.{headingOf}
 use Rattle.seat.specs.Stock.{packetIn, packetAt}
-use Rattle.seat.proofs.ChosenPacket.{Sizes, chosen-sizes, chosen-is-due, chosen-edit, chosen-body}
+use Rattle.seat.proofs.WellRead.{Sizes, carried}
+use Rattle.seat.proofs.ChosenPacket.{chosen-sizes, chosen-is-due, chosen-edit, chosen-body}
 use Rattle.seat.proofs.ReleaseAnswers.{no-room-answers-13, above-answers-23, releasing-answers-0, refused-release, done-release, body-at-start}
 use borrow.Author.Needs.{needs}
 use Rattle.seat.proofs.taking.hand_out.Statement.{statement}
@@ -28,7 +25,7 @@ use Rattle.seat.proofs.taking.hand_out.Tie as tie
 count-fits : (c : tie.Start) → Fits w16 (getD (c .args .seat .past) (c .args .heading .sender .0 - 1) 0)
 count-fits c = search needs
 
-sizes : (c : tie.Start) → Sizes (c .args .seat) (now (c .args .shelf)) (c .args .i) (c .args .heading) (c .args .past) (c .args .barrier) (c .pre)
+sizes : (c : tie.Start) → Sizes (c .args .heading) (packetAt (now (c .args .shelf)) (c .args .i))
 sizes c = chosen-sizes _ _ _ _ _ _ (c .pre)
 
 -- what stands on the slot
@@ -37,10 +34,6 @@ packet-is c = c .packet-in .ensures ∙ ap packetIn (c .before .slot .ensures)
 
 slot-requires : tie.Need-slot-requires
 slot-requires c κs = search needs
-
--- the edit that a packet carries, by its length
-abbrev carried : Heading → List ℕ → List ℕ → Edit
-carried heading past packet = record { sender = heading .sender; number = editNo (entry past (heading .sender)); length = length packet - bodyAt (heading .n) }
 
 -- what the part lends is the packet's body
 body-is : (c : tie.After-body) → let start = c .before .before .before .before .before .before .before .before in
@@ -151,7 +144,7 @@ returns-3 c = let clear = c .before .before .before in
     let r = start .pre in
     let enough : length (bodyOf (packetAt (now (start .args .shelf)) (start .args .i))) ≤ length (now (start .args .out)) = omega (arith, body-length body, room .if1 .left) in
     done-release _ _ _ _ (r .chosen) _ _ _ _ (releasing-answers-0 _ _ _ _ (r .chosen) enough (sym (above-is above) ∙ within .if2 .left))
-    (body .before .before .edit-in .ensures ∙ ap (carried (start .args .heading) (start .args .past)) (packet-is (body .before .before .before)) ∙ chosen-edit _ _ _ _ _ _ r)
+    (body .before .before .edit-in .ensures ∙ ap (λ (p : List ℕ). carried (start .args .heading) (start .args .past) (length p)) (packet-is (body .before .before .before)) ∙ chosen-edit _ _ _ _ _ _ r)
     (c .hand-over .ensures ∙ (λ k. handOver (start .args .seat) (r .heading-is k) (r .past-is k) (r .barrier-is k)))
     (clear .clear .ensures)
     (body-at-start (bodyOf (packetAt (now (start .args .shelf)) (start .args .i))) (now (start .args .out)) _ enough (put .put-bytes .ensures ∙ ap (sets (now (start .args .out)) 0) (body-is body)))

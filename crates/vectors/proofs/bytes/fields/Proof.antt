@@ -1,8 +1,6 @@
 -- `fields` meets its contract.
 use native.Mathlib.Omega.{arith}
 use Prim.Native.Nat.{_+_, _*_, _-_}
-use mathlib.Core.Path.{ap}
-use lib.ListN.{set}
 use Rattle.vectors.specs.Bytes.{numberAt}
 use Rattle.vectors.proofs.Vector.{Filled, filled-none, filled-more, filled-all}
 use borrow.Author.Needs.{needs}
