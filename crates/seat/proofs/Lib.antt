@@ -24,3 +24,12 @@ pub mod ChosenPacket
 pub mod ReleaseAnswers
 pub mod Unchanged
 pub mod Settled
+pub mod ArrivalTells
+pub mod ReleaseTells
+pub mod CarriedCounts
+pub mod LaidShelf
+pub mod ReadySlot
+pub mod HandedSet
+pub mod PassingStays
+pub mod ShelfStaysSound
+pub mod SteppingSound

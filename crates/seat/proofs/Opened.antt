@@ -13,7 +13,7 @@ use Rattle.packet.proofs.Writable.{in-range}
 use Rattle.seat.specs.State.{windowAt, counting, noSeat, soundState, Held}
 use Rattle.seat.proofs.Sound.{sound-passes, out-of-range-is-not-sound}
 
-zeros-at : (k : ℕ) → getD zeros k 0 ≡ 0
+pub zeros-at : (k : ℕ) → getD zeros k 0 ≡ 0
 zeros-at k =
     elim (decLt k 16) [
       | yes inside ↦ getD-replicate 16 k 0 0 inside

@@ -1,0 +1,17 @@
+pub mod Model
+pub mod Readiness
+pub mod Learning
+pub mod Sending
+pub mod Opening
+pub mod Arriving
+pub mod Releasing
+pub mod Moving
+pub mod Goes
+pub mod AfterSend
+pub mod AfterArrival
+pub mod AfterRelease
+pub mod Runs
+pub mod Demand3
+pub mod Computed
+pub mod PrintedCalls
+pub mod PrintedSession
