@@ -32,6 +32,30 @@ pub fn fields(s: &[u8], i: usize, n: usize) -> [u16; 16]
     v
 }
 
+// The number of eight bytes that stands at i. The callers have found the place to be there.
+pub fn wide_field(s: &[u8], i: usize) -> u64
+    requires { ⌜ i + 8 ≤ length (now s) ⌝ }
+    ensures { λ r. ⌜ r ≡ numberAt 8 (now (s .entry)) i ⌝ }
+{
+    let mut x = 0u64;
+    for k in 0..8 {
+        x = x * 256 + wide(s[i + k]) as u64;
+    }
+    x
+}
+
+// The n numbers of eight bytes from place i on, and 0 above. The callers have found them to be there.
+pub fn wide_fields(s: &[u8], i: usize, n: usize) -> [u64; 16]
+    requires { ⌜ (n ≤ 16) × (i + 8 * n ≤ length (now s)) ⌝ }
+    ensures { λ r. ⌜ r ≡ vector n (λ k. numberAt 8 (now (s .entry)) (i + 8 * k)) ⌝ }
+{
+    let mut v = [0u64; 16];
+    for k in 0..n {
+        v[k] = wide_field(s, i + 8 * k);
+    }
+    v
+}
+
 // The number x goes to place i, in two bytes. The callers have found room there.
 pub fn put_field(out: &mut [u8], i: usize, x: u16)
     requires { ⌜ i + 2 ≤ length (now out) ⌝ }
@@ -48,6 +72,28 @@ pub fn put_fields(out: &mut [u8], i: usize, n: usize, v: [u16; 16])
 {
     for k in 0..n {
         put_field(out, i + 2 * k, v[k]);
+    }
+}
+
+// The number x goes to place i, in eight bytes, the last one first. The callers have found room there.
+pub fn put_wide_field(out: &mut [u8], i: usize, x: u64)
+    requires { ⌜ i + 8 ≤ length (now out) ⌝ }
+    ensures { λ _. ⌜ now (out .exit) ≡ sets (now (out .entry)) i (bytesOf 8 x) ⌝ }
+{
+    let mut rest = x;
+    for k in 0..8 {
+        out[i + (7 - k)] = (rest % 256) as u8;
+        rest = rest / 256;
+    }
+}
+
+// The first n numbers of v go to place i and on, each in eight bytes. The callers have found room there.
+pub fn put_wide_fields(out: &mut [u8], i: usize, n: usize, v: [u64; 16])
+    requires { ⌜ (n ≤ 16) × (i + 8 * n ≤ length (now out)) ⌝ }
+    ensures { λ _. ⌜ now (out .exit) ≡ sets (now (out .entry)) i (fieldsOf 8 (take n v)) ⌝ }
+{
+    for k in 0..n {
+        put_wide_field(out, i + 8 * k, v[k]);
     }
 }
 
