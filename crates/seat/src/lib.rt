@@ -24,7 +24,7 @@ use sending::own_count;
 use sending::past_sent;
 use shelf::SLOT_SIZE;
 use state::header_of;
-use state::is_sound;
+pub use state::is_sound;
 use stock::look_over;
 use taking::take;
 ghost use mathlib.Core.Path.{_≡_};

@@ -1,0 +1,10 @@
+pub mod ImageParts
+pub mod ImageRoundTrip
+pub mod Reporting
+pub mod Keeping
+pub mod OpenCall
+pub mod SendCall
+pub mod ArriveCall
+pub mod ReleaseCall
+pub mod Unchanged
+pub mod Settled
