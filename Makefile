@@ -1,11 +1,13 @@
-# make        proves and builds every crate, runs the programs, and shows what the packet's example prints
-# make test   the gate: proves everything from nothing and tries the must-fail edits; its last line is the verdict
+# make        proves and builds every crate and the library for C, and shows two seats on the evening of the decimal comma
+# make test   the gate: proves everything from nothing, tries the wrong programs, and holds the library against the
+#             second program; its last line is the verdict on the crates
 .PHONY: all test
 
 all:
 	rt check
+	rt staticlib tautrobin
 	@echo
-	@cat target/log/packet_show.stdout
+	@outside/examples/run.sh
 
 test:
-	@rt ci
+	@outside/test.sh

@@ -33,3 +33,4 @@ pub mod HandedSet
 pub mod PassingStays
 pub mod ShelfStaysSound
 pub mod SteppingSound
+pub mod BothStaySound
