@@ -19,7 +19,8 @@ use Rattle.seat.proofs.SteppingSound.{SoundPlace, arriving-keeps-sound}
 use Rattle.session.specs.Events.{Edit, handed, shelved, Trace, _∈_}
 use Rattle.session.specs.Events as events
 use Rattle.session.specs.Protocol.{Seated, edit, Takes, Shelves, Run, takes, shelves}
-use Rattle.promises.specs.Demand3.{Place, answerNumber, movedTo, reported, Letter, traceAfterArrival}
+use Rattle.promises.specs.Demand3.{Place, movedTo, reported, Letter, traceAfterArrival}
+use Rattle.promises.specs.Demand1.{answerNumber}
 use Rattle.promises.proofs.Model.{model, edit-is}
 use Rattle.promises.proofs.Arriving.{arrival-takes, arrival-shelves}
 use Rattle.promises.proofs.Moving.{turn-of, refusals-are-from-10, refused-arrival-tells-nothing}

@@ -20,7 +20,8 @@ use Rattle.seat.proofs.SteppingSound.{SoundPlace, releasing-keeps-sound}
 use Rattle.session.specs.Events.{Edit, handed, idle, Trace}
 use Rattle.session.specs.Events as events
 use Rattle.session.specs.Protocol.{Seated, edit, Releases, Rests, Run, releases, rests}
-use Rattle.promises.specs.Demand3.{Place, answerNumber, movedTo, reported, Letter, traceAfterRelease}
+use Rattle.promises.specs.Demand3.{Place, movedTo, reported, Letter, traceAfterRelease}
+use Rattle.promises.specs.Demand1.{answerNumber}
 use Rattle.promises.proofs.Model.{model, edit-is}
 use Rattle.promises.proofs.Releasing.{release-releases, idle-rests}
 use Rattle.promises.proofs.Moving.{moved-here, turn-of, refusals-are-from-10, refused-release-tells-nothing}

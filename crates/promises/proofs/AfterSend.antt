@@ -24,7 +24,8 @@ use Rattle.seat.proofs.SendAnswers as send
 use Rattle.seat.proofs.SteppingSound.{SoundPlace, sending-keeps-place-sound}
 use Rattle.session.specs.Events.{Kind, Edit, sent, Trace}
 use Rattle.session.specs.Protocol.{Seated, edit, Sends, Turn, Run, sends}
-use Rattle.promises.specs.Demand3.{Place, answerNumber, movedTo, reported, Letter, letterIn, kindAs, kindSent, lettersAfterSend, traceAfterSend}
+use Rattle.promises.specs.Demand3.{Place, movedTo, reported, Letter, letterIn, kindAs, kindSent, lettersAfterSend, traceAfterSend}
+use Rattle.promises.specs.Demand1.{answerNumber}
 use Rattle.promises.proofs.Model.{model, edit-is}
 use Rattle.promises.proofs.Sending.{sent-by-number, sent-kind, sent-edit, sent-packet-carries-counts, send-is-lines-1-to-4}
 use Rattle.promises.proofs.Moving.{turn-of}

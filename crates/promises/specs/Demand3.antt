@@ -20,16 +20,14 @@ use Rattle.seat.specs.declared.Stepped.{Stepped}
 use Rattle.seat.specs.declared.Wish.{Wish}
 use Rattle.session.specs.Events.{Kind, ordinary, causal, arrival, release, Edit, sent, handed, shelved, idle, Trace, _∈_, Kept}
 use Rattle.session.specs.Protocol.{Seated}
+use Rattle.promises.specs.Demand1.{answerNumber}
 
 -- A seat's latest state and shelf.
 pub record Place : Type 0 where
   pub seat : Seat
   pub shelf : List ℕ
 
--- The number of an answer, and the edit that it reports: its sender and sequence number.
-abbrev pub answerNumber : Answer → ℕ
-answerNumber answer = report answer .answer
-
+-- The edit that an answer reports: its sender and sequence number.
 abbrev pub reported : Answer → Edit
 reported answer = record { by = report answer .edit .sender .0; number = report answer .edit .number .0 }
 

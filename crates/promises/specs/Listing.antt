@@ -8,7 +8,8 @@ use Rattle.seat.specs.declared.Wish.{Wish}
 use Rattle.seat.specs.declared.Wish.the-variants.{Ordinary, Causal}
 use Rattle.session.specs.Events.{ordinary, causal, arrival, release, sent, handed, shelved, idle, Trace}
 use Rattle.session.specs.Protocol.{Seated}
-use Rattle.promises.specs.Demand3.{Place, answerNumber, reported, Letter, Session, opening, sending, arriving, releasing}
+use Rattle.promises.specs.Demand3.{Place, reported, Letter, Session, opening, sending, arriving, releasing}
+use Rattle.promises.specs.Demand1.{answerNumber}
 
 -- `s SEAT o|c`, `a SEAT SENDER NUMBER` and `r SEAT`.
 pub data Step : Type 0 where

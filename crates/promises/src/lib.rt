@@ -1,1 +1,1 @@
-// What is promised of a session of seats (demand 3): its statement in specs/, its proof in proofs/. There is no code.
+// What is promised, as theorems over the definitions that the calls' contracts cite. There is no code.
