@@ -8,3 +8,4 @@ pub mod ArriveCall
 pub mod ReleaseCall
 pub mod Unchanged
 pub mod Settled
+pub mod Crossing
