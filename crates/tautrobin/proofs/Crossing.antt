@@ -7,7 +7,6 @@ use mathlib.Core.List.{List}
 use lib.Dec.{leb}
 use lib.ListN.{length}
 use Rattle.answers.specs.Answers.{report}
-use Rattle.answers.specs.declared.Report.{Report}
 use Rattle.vectors.specs.Bytes.{Bytes}
 use Rattle.seat.specs.State.{Held}
 use Rattle.seat.specs.declared.Stepped.{Stepped}
