@@ -1,17 +1,21 @@
-#!/bin/sh
+#!/usr/bin/env bash
 # The gate: every crate from nothing with the wrong programs, then the checks that proofs cannot reach. The last line
 # is the verdict on the crates.
-set -eu
+set -euo pipefail
 cd "$(dirname "$0")/.."
-said=$(mktemp)
-trap 'rm -f "$said"' EXIT
-{ rt ci; echo "$?" >"$said.status"; } 2>&1 | tee "$said"
-status=$(cat "$said.status")
-rm -f "$said.status"
-[ "$status" -eq 0 ] || exit "$status"
+verdict=$(mktemp) said=$(mktemp)
+trap 'rm -f "$verdict" "$said"' EXIT
+
+# A check, whose output is shown whole only where it fails.
+check() {
+    "$@" >"$said" 2>&1 || { cat "$said"; echo "FAILED: $*"; exit 1; }
+    echo "$*: $(tail -n 1 "$said")"
+}
+
+rt ci 2>&1 | tee "$verdict"
 echo
-rt staticlib tautrobin
-outside/examples/run.sh | diff outside/examples/evening.txt - && echo "the example prints what it should"
-outside/compare/run.sh
-outside/compare/faults.sh | tail -n 1
-tail -n 1 "$said"
+check rt staticlib tautrobin
+check outside/examples/test.sh
+check outside/compare/run.sh
+check outside/compare/faults.sh
+tail -n 1 "$verdict"
