@@ -17,6 +17,7 @@ pub mod AlikePackets
 pub mod AlikeShelves
 pub mod BodyUnread
 pub mod WrongLibraries
+pub mod WrongSessions
 pub mod Model
 pub mod Readiness
 pub mod Learning

@@ -6,3 +6,4 @@ pub mod Edges
 pub mod BodyUnread
 pub mod Settled
 pub mod WrongLibraries
+pub mod WrongSessions
