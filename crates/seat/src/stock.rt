@@ -14,7 +14,7 @@ ghost use mathlib.Core.Bool.{true, false};
 ghost use Prim.Native.Nat.{_+_, _≤_, _<_};
 ghost use lib.ListN.{length};
 ghost use Rattle.vectors.specs.Vectors.{entry};
-ghost use Rattle.shelf.specs.Shelf.{slotSize, slots};
+ghost use Rattle.shelf.specs.Shelf.{slotSize, slots, isFree};
 ghost use Rattle.seat.specs.Stock.{packetIn, aboveOwnCount, tooFarAhead};
 ghost use Rattle.seat.specs.Survey.{windowWith, markedWith, passesBeside, keyOf, Counted, Looked, Surveyed};
 ghost use Rattle.seat.specs.Steps.{LookedOver};
@@ -168,15 +168,12 @@ fn unsound(stock: Stock) -> Stock
     bad
 }
 
-// Slot i is looked at. The caller has found the slot to be there, and those before it to be sound.
+// Slot i is looked at. The caller has found the slot to be there and in use, and those before it to be sound.
 fn look(seat: Seat, shelf: &[u8], i: usize, stock: Stock) -> Stock
-    requires { ⌜ (i < slots (now shelf)) × (stock .sound ≡ true) × Looked i seat (now shelf) stock ⌝ }
+    requires { ⌜ (i < slots (now shelf)) × (isFree (now shelf) i ≡ false) × (stock .sound ≡ true) × Looked i seat (now shelf) stock ⌝ }
     ensures { λ r. ⌜ Looked (i + 1) seat (now (shelf .entry)) r ⌝ }
 {
     let slot = shelf::slot(shelf, i);
-    if shelf::is_zero(slot) {
-        return stock;
-    }
     let reading = packet::read(packet_in(slot));
     let answer = reading.answer;
     match answer {
@@ -207,9 +204,11 @@ pub fn survey(seat: Seat, shelf: &[u8]) -> Stock
         key: NO_KEY,
     };
     for i in 0..n {
-        stock = look(seat, shelf, i, stock);
-        if !stock.sound {
-            return stock;
+        if !shelf::is_zero(shelf::slot(shelf, i)) {
+            stock = look(seat, shelf, i, stock);
+            if !stock.sound {
+                return stock;
+            }
         }
     }
     stock

@@ -1,6 +1,6 @@
--- `look` meets its contract: a slot that is free, a packet that is refused or does not pass, and one that is counted in.
+-- `look` meets its contract: a packet that is refused, one that does not pass, and one that is counted in.
 use Prim.Native.Nat.{ℕ, _-_}
-use mathlib.Core.Bool.{true, false}
+use mathlib.Core.Bool.{true}
 use mathlib.Core.Path.{_≡_, sym, ap, _∙_}
 use denote.Ref.{now}
 use native.Mathlib.Omega.{arith}
@@ -8,42 +8,34 @@ use mir.Syntax.{w16}
 use mir.Val.{Fits}
 use lib.ListN.{length, getD}
 use borrow.Author.Tests.{not-true, not-false}
-use Rattle.shelf.specs.Shelf.{allZero, isFree}
 use Rattle.shelf.proofs.Slots.{length-slotAt}
 use Rattle.packet.specs.Reading.{readOf}
 use Rattle.packet.proofs.Told.{Told, told}
 use Rattle.seat.specs.Stock.{packetIn, packetAt}
 use Rattle.seat.specs.Survey.{passesBeside}
 use Rattle.seat.proofs.Beside.{passed-is-in-window}
-use Rattle.seat.proofs.Looked.{slot-is-bad, slot-is-free, refused-is-bad, sound-where-passed, packet-is-counted}
+use Rattle.seat.proofs.Looked.{slot-is-bad, refused-is-bad, sound-where-passed, packet-is-counted}
 use borrow.Author.Needs.{needs}
 use Rattle.seat.proofs.stock.look.Statement.{statement}
 use Rattle.seat.proofs.stock.look.Tie as tie
 
--- what the test says of slot i
-tested : (c : tie.After-is-zero) → let start = c .before .before .before in c .is-zero .result ≡ isFree (now (start .args .shelf)) (start .args .i)
-tested c = c .is-zero .ensures ∙ ap allZero (c .before .slot .ensures)
-
-used : (c : tie.Else1) → let start = c .before .before .before .before in isFree (now (start .args .shelf)) (start .args .i) ≡ false
-used c = sym (tested (c .before)) ∙ c .if1 .left
-
--- the packet on it, as it was read
-reading : (c : tie.After-read) → let start = c .before .before .before .before .before .before in c .read .result ≡ readOf (packetAt (now (start .args .shelf)) (start .args .i))
-reading c = c .read .ensures ∙ ap readOf (c .before .packet-in .ensures ∙ ap packetIn (c .before .before .before .before .slot .ensures))
+-- the packet on slot i, as it was read
+reading : (c : tie.After-read) → let start = c .before .before .before .before in c .read .result ≡ readOf (packetAt (now (start .args .shelf)) (start .args .i))
+reading c = c .read .ensures ∙ ap readOf (c .before .packet-in .ensures ∙ ap packetIn (c .before .before .slot .ensures))
 
 -- what its answer tells, and that it passed
 good : (c : tie.After-known-told)
     → let read = c .before .before .before in
-    let start = read .before .before .before .before .before .before in
+    let start = read .before .before .before .before in
     Told (packetAt (now (start .args .shelf)) (start .args .i)) (read .read .result) (c .before .answer .given .0 .0)
 good c = let read = c .before .before .before in told _ _ (reading read) _ (c .before .answer .given .1)
 
-passed : (c : tie.Else2)
+passed : (c : tie.Else1)
     → let told-case = c .before .before .before .before .before .before in
     let read = told-case .before .before .before in
-    let start = read .before .before .before .before .before .before in
+    let start = read .before .before .before .before in
     passesBeside (start .args .seat) (start .args .stock .marks) (told-case .before .answer .given .0 .0) (read .read .result .past) ≡ true
-passed c = sym (c .before .passes-beside .ensures) ∙ not-false _ (c .if2 .left)
+passed c = sym (c .before .passes-beside .ensures) ∙ not-false _ (c .if1 .left)
 
 -- the words are 16, and the packet's counts are counts
 long : (c : tie.Start) → length (c .args .stock .marks) ≡ 16
@@ -55,16 +47,9 @@ counts c k = search needs
 slot-requires : tie.Need-slot-requires
 slot-requires c κs = search needs
 
-is-zero-requires : tie.Need-is-zero-requires
-is-zero-requires c κs = search needs
-
-returns : tie.Need-returns
-returns c = let start = c .before .before .before .before in
-    slot-is-free _ _ _ _ (start .pre .1) (start .pre .2) (sym (tested (c .before)) ∙ c .if1 .taken)
-
 packet-in-requires : tie.Need-packet-in-requires
-packet-in-requires c κs = let start = c .before .before .before .before in
-    ap length (c .before .before .slot .ensures) ∙ length-slotAt _ _ (start .pre .0)
+packet-in-requires c κs = let start = c .before .before in
+    ap length (c .slot .ensures) ∙ length-slotAt _ _ (start .pre .0)
 
 read-requires : tie.Need-read-requires
 read-requires c κs = search needs
@@ -84,14 +69,14 @@ passes-beside-requires c κs = let t = good (c .before .before .before .before) 
 unsound-requires-2 : tie.Need-unsound-requires-2
 unsound-requires-2 c κs = search needs
 
-returns-2 : tie.Need-returns-2
-returns-2 c = let beside = c .before .before in
+returns : tie.Need-returns
+returns c = let beside = c .before .before in
     let told-case = beside .before .before .before .before .before in
     let read = told-case .before .before .before in
-    let start = read .before .before .before .before .before .before in
+    let start = read .before .before .before .before in
     slot-is-bad _ _ _ _ (c .unsound2 .ensures)
-    (sound-where-passed _ _ _ _ (start .pre .1) (start .pre .2) _ (reading read) (used (read .before .before)) _ (told-case .before .answer .given .1)
-    ∙ sym (beside .passes-beside .ensures) ∙ not-true _ (c .before .if2 .taken))
+    (sound-where-passed _ _ _ _ (start .pre .2) (start .pre .3) _ (reading read) (start .pre .1) _ (told-case .before .answer .given .1)
+    ∙ sym (beside .passes-beside .ensures) ∙ not-true _ (c .before .if1 .taken))
 
 count-in-requires : tie.Need-count-in-requires
 count-in-requires c κs = let beside = c .before in
@@ -99,22 +84,22 @@ count-in-requires c κs = let beside = c .before in
     let within = passed-is-in-window _ _ _ _ (passed c) in
     (t .sender-low, omega arith, within .0, within .1)
 
-returns-3 : tie.Need-returns-3
-returns-3 c = let told-case = c .before in
+returns-2 : tie.Need-returns-2
+returns-2 c = let told-case = c .before in
     let read = told-case .before .before in
-    let start = read .before .before .before .before .before .before in
+    let start = read .before .before .before .before in
     slot-is-bad _ _ _ _ (c .unsound .ensures)
-    (refused-is-bad _ _ _ _ (start .pre .1) (start .pre .2) _ (reading read) (used (read .before .before)) (told-case .enum-told .given .1))
+    (refused-is-bad _ _ _ _ (start .pre .2) (start .pre .3) _ (reading read) (start .pre .1) (told-case .enum-told .given .1))
 
-returns-4 : tie.Need-returns-4
-returns-4 c = let beside = c .before .before in
+returns-3 : tie.Need-returns-3
+returns-3 c = let beside = c .before .before in
     let told-case = beside .before .before .before .before .before in
     let read = told-case .before .before .before in
-    let start = read .before .before .before .before .before .before in
+    let start = read .before .before .before .before in
     let t = good told-case in
     let heading = told-case .before .answer .given .0 .0 in
     let fits = counts (beside .before .before .before) (heading .sender .0 - 1) in
-    packet-is-counted _ _ _ _ (start .pre .1) (start .pre .2) _ (reading read) (used (read .before .before)) _ (told-case .before .answer .given .1)
+    packet-is-counted _ _ _ _ (start .pre .2) (start .pre .3) _ (reading read) (start .pre .1) _ (told-case .before .answer .given .1)
     (passed (c .before)) _ (c .count-in .ensures) (long start) (omega arith)
 
 pub look-spec : {M : Type 1} → statement M
@@ -122,8 +107,6 @@ look-spec =
     tie.close
     (tie.spec
     slot-requires
-    is-zero-requires
-    returns
     packet-in-requires
     read-requires
     enum-told
@@ -131,7 +114,7 @@ look-spec =
     enum-known-answer
     passes-beside-requires
     unsound-requires-2
-    returns-2
+    returns
     count-in-requires
-    returns-3
-    returns-4)
+    returns-2
+    returns-3)
