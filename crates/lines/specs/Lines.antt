@@ -12,7 +12,10 @@ use Rattle.lines.specs.declared.Step.the-variants.{Send, Arrive, Release
 use Rattle.lines.specs.declared.Opening.{Opening}
 use Rattle.lines.specs.declared.Opening.the-variants.{Session, Bad}
 
--- A space, and the letters.
+-- A line feed, a space, and the letters.
+abbrev pub lineFeed : ℕ
+lineFeed = 10
+
 abbrev pub space : ℕ
 space = 32
 
@@ -31,11 +34,17 @@ letterO = 111
 abbrev pub letterC : ℕ
 letterC = 99
 
--- The words of a line: what stands before, between and after its spaces.
+-- One byte more at the start of the first piece.
 abbrev pub withFirst : ℕ → List (List ℕ) → List (List ℕ)
 withFirst byte [] = (byte ∷ []) ∷ []
-withFirst byte (word ∷ others) = (byte ∷ word) ∷ others
+withFirst byte (piece ∷ others) = (byte ∷ piece) ∷ others
 
+-- The lines of a step list: each ends in a line feed, which the last may lack.
+unfoldable pub linesOf : List ℕ → List (List ℕ)
+linesOf [] = []
+linesOf (byte ∷ rest) = cond (eqb byte lineFeed) ([] ∷ linesOf rest) (withFirst byte (linesOf rest))
+
+-- The words of a line: what stands before, between and after its spaces.
 unfoldable pub words : List ℕ → List (List ℕ)
 words [] = [] ∷ []
 words (byte ∷ rest) = cond (eqb byte space) ([] ∷ words rest) (withFirst byte (words rest))
