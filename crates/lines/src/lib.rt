@@ -1,4 +1,6 @@
 // The lines of a step list (document 01, "The step-list program"). A line is the bytes before its line feed.
+pub mod answer;
+
 ghost use mathlib.Core.Path.{_≡_};
 ghost use mathlib.Core.Bool.{true};
 ghost use Prim.Native.Nat.{_-_, _≤_};
