@@ -6,3 +6,4 @@ pub mod Cut
 pub mod Decimal
 pub mod Writing
 pub mod AnswerLength
+pub mod Worked
