@@ -61,6 +61,14 @@ pub other-lines-of-feed : (t : List ℕ) → otherLines (lineFeed ∷ t) ≡ lin
 unfolding otherLines linesOf
 other-lines-of-feed t = refl
 
+pub first-line-of-none : firstLine [] ≡ []
+unfolding firstLine linesOf
+first-line-of-none = refl
+
+pub other-lines-of-none : otherLines [] ≡ []
+unfolding otherLines linesOf
+other-lines-of-none = refl
+
 -- ---- the lines of a text that starts with these bytes
 
 pub cut-feed : (p t : List ℕ) → NoFeed p → linesOf (p ++ (lineFeed ∷ t)) ≡ p ∷ linesOf t

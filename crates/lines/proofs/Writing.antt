@@ -26,6 +26,10 @@ wrote-then {out} {between} {after} {first} {second} {at} {next} {end} a b =
 pub wrote-long : {out after bytes : List ℕ} {at next : ℕ} → Wrote out at bytes next after → length after ≡ length out
 wrote-long {out} {after} {bytes} {at} w = ap length (w .holds) ∙ length-sets out at bytes
 
+-- the contract settles the place and the bytes
+pub wrote-settled : {out after other bytes : List ℕ} {at next end : ℕ} → Wrote out at bytes next after → Wrote out at bytes end other → (next ≡ end) × (after ≡ other)
+wrote-settled a b = (a .ends ∙ sym (b .ends), a .holds ∙ sym (b .holds))
+
 -- where a piece has been written, the next has room if both have it
 pub wrote-room : {out between first : List ℕ} {at next : ℕ} (second : List ℕ) (most : ℕ) → Wrote out at first next between → length (first ++ second) ≤ most → at + most ≤ length out
     → next + length second ≤ length between
