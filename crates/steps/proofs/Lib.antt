@@ -1,0 +1,6 @@
+pub mod Parts
+pub mod AtSeat
+pub mod ListOf
+pub mod Held
+pub mod Walking
+pub mod Sends
