@@ -4,3 +4,4 @@ pub mod ListOf
 pub mod Held
 pub mod Walking
 pub mod Sends
+pub mod Opened

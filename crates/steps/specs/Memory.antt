@@ -4,13 +4,14 @@ use mathlib.Core.Path.{_≡_}
 use mathlib.Core.Bool.{Bool, _&&_}
 use mathlib.Core.List.{List, [], _∷_, _++_}
 use lib.Dec.{leb, eqb}
-use lib.ListN.{length, getD, set, take, drop}
-use Rattle.answers.specs.Answers.{bare, report}
+use lib.ListN.{length, getD, set, take, drop, replicate}
+use Rattle.answers.specs.Answers.{seatNo, report}
 use Rattle.answers.specs.declared.Answer.{Answer}
 use Rattle.answers.specs.declared.Answer.the-variants.{Opened, Done, Shelved, NothingReady, Refused}
 use Rattle.packet.specs.Packet.{packetLength, pastOf, barrierOf}
 use Rattle.packet.specs.Writing.{outputAfter}
 use Rattle.shelf.specs.Shelf.{slotSize, lowest}
+use Rattle.seat.specs.State.{counting}
 use Rattle.seat.specs.Sending.{kindOf, packetSent, sentSeat, sendAnswer, seatAfter, Sent}
 use Rattle.seat.specs.HandingOver.{handOver}
 use Rattle.seat.specs.Arriving.{headingOf, arriveAnswer, shelfAfter}
@@ -185,3 +186,14 @@ abbrev pub ReleasedAt : Walk → ℕ → List ℕ → Walked → List ℕ → Ty
 ReleasedAt walk i shelves =
     ReleasedAs walk i (chosenPacket (seatIn walk i) (shelfIn walk shelves i)) shelves
     (releaseAnswer (seatIn walk i) (shelfIn walk shelves i) [])
+
+-- The seat at i was opened.
+pub record OpenedIn (n slots i : ℕ) (shelves : List ℕ) (seat : Seat) (shelves-left : List ℕ) : Type 0 where
+  pub seat-is : seat ≡ counting n (seatNo (suc i))
+  pub shelves-are : shelves-left ≡ withPiece (slots * slotSize) shelves i (replicate (slots * slotSize) 0)
+
+-- The first k seats of n were opened.
+pub record AllOpened (k n slots : ℕ) (seats : List Seat) (shelves : List ℕ) : Type 0 where
+  pub long : length seats ≡ 16
+  pub seat-is : (i : ℕ) → i < k → getD seats i nobody ≡ counting n (seatNo (suc i))
+  pub shelf-is : (i : ℕ) → i < k → piece (slots * slotSize) shelves i ≡ replicate (slots * slotSize) 0

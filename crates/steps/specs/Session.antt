@@ -18,6 +18,11 @@ use Rattle.seat.specs.Arriving.{headingOf, arriveAnswer, shelfAfter}
 use Rattle.seat.specs.Releasing.{chosenPacket, releaseAnswer, shelfAfterRelease}
 use Rattle.seat.specs.declared.Seat.{Seat}
 use Rattle.seat.specs.declared.Wish.{Wish}
+use Rattle.seat.specs.declared.Wish.the-variants.{Ordinary as PlainOrdinary, Causal as PlainCausal, Usual}
+use Rattle.lines.specs.declared.Letter as lines
+use Rattle.lines.specs.declared.Letter.the-variants.{Ordinary, Causal, Missing}
+use Rattle.lines.specs.declared.Step.{Step}
+use Rattle.lines.specs.declared.Step.the-variants.{Send, Arrive, Release, Unreadable}
 
 -- A seat's latest state and shelf.
 pub record Place : Type 0 where
@@ -166,6 +171,21 @@ releaseTold session k =
     (released session k (placeOf session k) (chosenPacket (placeOf session k .seat) (placeOf session k .shelf))
     (releaseAnswer (placeOf session k .seat) (placeOf session k .shelf) []))
     (unknown session)
+
+-- ---- a line
+
+-- A missing letter means usual.
+abbrev pub wishOf : lines.Letter → Wish
+wishOf Ordinary = PlainOrdinary
+wishOf Causal = PlainCausal
+wishOf Missing = Usual
+
+-- What a line after the first is answered: 21 where it is unreadable.
+unfoldable pub stepTold : Session → Step → Told
+stepTold session (Send k letter) = sendTold session k (wishOf letter)
+stepTold session (Arrive k sender number) = arriveTold session k sender number
+stepTold session (Release k) = releaseTold session k
+stepTold session Unreadable = unknown session
 
 -- ---- opening
 

@@ -1,2 +1,3 @@
 // Walking a step list (document 01, "The step-list program").
+pub mod opening;
 pub mod walk;

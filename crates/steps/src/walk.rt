@@ -5,6 +5,8 @@ use answers::Edit;
 use answers::EditNo;
 use answers::Report;
 use answers::SeatNo;
+use lines::Letter;
+use lines::Step;
 use packet::HEAD_LEN;
 use seat::Seat;
 use seat::Stepped;
@@ -15,7 +17,7 @@ ghost use Prim.Native.Nat.{ℕ, _+_, _*_, _≤_, _<_};
 ghost use mathlib.Core.List.{List};
 ghost use lib.ListN.{length};
 ghost use Rattle.answers.specs.Answers.{bare};
-ghost use Rattle.steps.specs.Session.{sendTold, arriveTold, releaseTold};
+ghost use Rattle.steps.specs.Session.{sendTold, arriveTold, releaseTold, wishOf, stepTold};
 ghost use Rattle.steps.specs.Memory.{shelfSize, packetIn, sessionIn, packetsSize, shelvesSize, Bounded, Walks, isSeated, foundIn, withSeat, withLetter, withSend, walkedTo, SentEmpty, SentAt, ArrivedAt, ReleasedAt};
 
 // The bytes that the longest packet takes: 16 seats and no body.
@@ -239,4 +241,30 @@ fn release(walk: Walk, seat: u32, shelves: &mut [u8]) -> Walked
     }
     let at = (seat - 1) as usize;
     release_at(walk, at, shelves)
+}
+
+// A missing letter means usual.
+fn wish_of(letter: Letter) -> Wish
+    ensures { λ r. ⌜ r ≡ wishOf letter ⌝ }
+{
+    match letter {
+        Letter::Ordinary => Wish::Ordinary,
+        Letter::Causal => Wish::Causal,
+        Letter::Missing => Wish::Usual,
+    }
+}
+
+// A line after the first.
+pub fn walk_step(walk: Walk, step: Step, shelves: &mut [u8], packets: &mut [u8]) -> Walked
+    requires { ⌜ Bounded walk × (length (now shelves) ≡ shelvesSize) × (length (now packets) ≡ packetsSize) ⌝ }
+    ensures { λ r. ⌜ Walks (stepTold (sessionIn walk (now (shelves .entry)) (now (packets .entry))) step) r (now (shelves .exit)) (now (packets .exit)) ⌝ }
+{
+    match step {
+        Step::Send(seat, letter) => send(walk, seat, wish_of(letter), packets),
+        Step::Arrive(seat, sender, number) => {
+            arrive(walk, seat, sender, number, &*packets, shelves)
+        }
+        Step::Release(seat) => release(walk, seat, shelves),
+        Step::Unreadable => unknown(walk),
+    }
 }
