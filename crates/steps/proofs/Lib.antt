@@ -5,3 +5,4 @@ pub mod Held
 pub mod Walking
 pub mod Sends
 pub mod Opened
+pub mod Printing

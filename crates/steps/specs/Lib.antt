@@ -1,2 +1,4 @@
 pub mod Session
+pub mod Printed
 pub mod Memory
+pub mod Course

@@ -1,3 +1,4 @@
 // Walking a step list (document 01, "The step-list program").
-pub mod opening;
-pub mod walk;
+pub mod list;
+mod opening;
+mod walk;

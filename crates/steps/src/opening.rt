@@ -64,3 +64,18 @@ pub fn open_session(n: u8, slots: usize, shelves: &mut [u8]) -> Walk
         numbers: [0; 256],
     }
 }
+
+// A walk of no seats, before line one.
+pub fn no_walk() -> Walk
+    ensures { λ r. ⌜ Bounded r ⌝ }
+{
+    Walk {
+        n: 0,
+        slots: 0,
+        sends: 0,
+        letters: 0,
+        seats: [nobody(); 16],
+        senders: [0; 256],
+        numbers: [0; 256],
+    }
+}
