@@ -6,3 +6,4 @@ pub mod Walking
 pub mod Sends
 pub mod Opened
 pub mod Printing
+pub mod Texts

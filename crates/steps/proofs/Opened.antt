@@ -56,8 +56,8 @@ module _ (n slots i : ℕ) (there : i < n) (seats-most : n ≤ 16) (few : slots 
       let size = slots * slotSize in
       let long = length-piece size shelves i inside in
       let at : OpenedAs n (seatNo (suc i)) (piece size shelves i) stepped after
-            = subst (λ (k : ℕ). OpenedAs n (seatNo k) (piece size shelves i) stepped after) (add-one i)
-            (subst (λ (shelf : List ℕ). OpenedAs n (seatNo (i + 1)) shelf stepped after) (part-lent size i shelves) lent) in
+      = subst (λ (k : ℕ). OpenedAs n (seatNo k) (piece size shelves i) stepped after) (add-one i)
+      (subst (λ (shelf : List ℕ). OpenedAs n (seatNo (i + 1)) shelf stepped after) (part-lent size i shelves) lent) in
       let yields = opens (piece size shelves i) long in
       record {
         seat-is = at .next ∙ (λ p. openedSeat (yields p) n (seatNo (suc i)));
@@ -117,14 +117,16 @@ module _ (walk : Walk) (shelves : List ℕ) (seats-most : walk .n ≤ 16) (few :
       each i h = (λ p. record { seat = all .seat-is i h p; shelf = all .shelf-is i h p }) ∙ sym (opened-place (walk .n) (walk .slots) i h seats-most few)
 
   pub opened-walk : Bounded walk × ((packets : List ℕ) → sessionIn walk shelves packets ≡ opened (walk .n) (walk .slots))
-  opened-walk =
-      (record {
-        seats-most = seats-most;
-        slots-most = few;
-        letters-most = omega arith;
-        sends-most = omega arith;
-        same-session = λ i h. ap (λ (s : Seat). s .n) (all .seat-is i h);
-        seats-long = all .long;
-        senders-long = senders-long;
-        numbers-long = numbers-long;
-      }, opened-session)
+  opened-walk = (
+    record {
+      seats-most = seats-most;
+      slots-most = few;
+      letters-most = omega arith;
+      sends-most = omega arith;
+      same-session = λ i h. ap (λ (s : Seat). s .n) (all .seat-is i h);
+      seats-long = all .long;
+      senders-long = senders-long;
+      numbers-long = numbers-long;
+    },
+    opened-session,
+  )

@@ -61,9 +61,11 @@ pub step-taken : (number at : ℕ) (out line : List ℕ) (before : Session) {end
     → at + answerMost ≤ length out → (fresh : Line) → fresh .length ≡ 0 → length (fresh .bytes) ≡ lineMost
     → LineTaken number (λ lines. walked number before (line ∷ lines)) out at
     (record { course = record { stage = Walking; number = number + 1; line = fresh; walk = now-walked .walk }; end = end }) shelves packets out-left
+unfolding forLines walked
 step-taken number at out line before {end} {out-left} {shelves} {packets} now-walked step is so wrote short room fresh none long =
     record {
       prints = step-prints number at end out out-left line before (now-walked .walk) shelves packets now-walked step is so wrote short room;
+      no-more = refl;
       fresh = none;
       line-long = long;
       bounded = so .bounded;
@@ -87,6 +89,7 @@ pub taken-alike : {number : ℕ} {before other : List (List ℕ) → List ℕ} {
 taken-alike {out = out} {at = at} alike so =
     record {
       prints = λ lines. so .prints lines ∙ ap (λ (l : List ℕ). take at out ++ l) (alike lines);
+      no-more = so .no-more;
       fresh = so .fresh;
       line-long = so .line-long;
       bounded = so .bounded;
@@ -101,8 +104,9 @@ pub list-refused : {number at end : ℕ} {out out-left : List ℕ} {walk : Walk}
 list-refused {at = at} {out = out} {course = course} {shelves = shelves} {packets = packets} wrote ended bounded room =
     record {
       prints = λ lines.
-        (λ p. wrote-prints wrote (omega (arith, short)) p ++ ended .nothing shelves packets lines p)
-        ∙ append-nil (take at out ++ badFirst);
+          (λ p. wrote-prints wrote (omega (arith, short)) p ++ ended .nothing shelves packets lines p)
+          ∙ append-nil (take at out ++ badFirst);
+      no-more = ended .nothing shelves packets [];
       fresh = ended .fresh;
       line-long = ended .line-long;
       bounded = subst Bounded (sym (ended .walk-is)) bounded;
@@ -118,10 +122,11 @@ list-refused {at = at} {out = out} {course = course} {shelves = shelves} {packet
 pub list-begun : (session : Session) (number at : ℕ) (line : Line) (walk : Walk) → line .length ≡ 0 → length (line .bytes) ≡ lineMost → Bounded walk → (packets out : List ℕ) {shelves : List ℕ}
     → sessionIn walk shelves packets ≡ session
     → LineTaken number (walked 1 session) out at (record { course = record { stage = Walking; number = 1; line = line; walk = walk }; end = at }) shelves packets out
-unfolding forLines
+unfolding forLines walked
 list-begun session number at line walk fresh long bounded packets out is =
     record {
       prints = λ lines. λ p. take at out ++ walked 1 (is p) lines;
+      no-more = refl;
       fresh = fresh;
       line-long = long;
       bounded = bounded;
@@ -162,6 +167,7 @@ pub list-ended : {number : ℕ} {before : List (List ℕ) → List ℕ} (at : �
 list-ended at out {course = course} {shelves = shelves} {packets = packets} ended bounded none =
     record {
       prints = λ lines. ap (λ (l : List ℕ). take at out ++ l) (ended .nothing shelves packets lines ∙ none lines);
+      no-more = ended .nothing shelves packets [];
       fresh = ended .fresh;
       line-long = ended .line-long;
       bounded = subst Bounded (sym (ended .walk-is)) bounded;
@@ -182,12 +188,12 @@ long-alike Walking number session one other lines long-one long-other =
     ap (λ (s : Step). lineOf number (stepTold session s .report) ++ walked (suc number) (stepTold session s .session) lines) (long-step one long-one ∙ sym (long-step other long-other))
 long-alike Ended number session one other lines long-one long-other = refl
 
-no-feed-start : (p : List ℕ) (n : ℕ) → NoFeed p → NoFeed (take n p)
+pub no-feed-start : (p : List ℕ) (n : ℕ) → NoFeed p → NoFeed (take n p)
 no-feed-start p n so =
     record {
       none = λ k h e.
-        let below : k < n = omega (arith, length-take n p) in
-        so .none k (omega (arith, length-take n p)) (sym (getD-take n p k 0 below) ∙ e)
+          let below : k < n = omega (arith, length-take n p) in
+          so .none k (omega (arith, length-take n p)) (sym (getD-take n p k 0 below) ∙ e);
     }
 
 pub kept-alike : (stage : Stage) (number : ℕ) (session : Session) (p text : List ℕ) → NoFeed p

@@ -1,7 +1,9 @@
 -- How far a list has come: what is still to be printed when the input comes in pieces.
 use Prim.Native.Nat.{ℕ, _+_, _*_, _≤_, _<_}
 use mathlib.Core.Path.{_≡_}
+use mathlib.Core.Bool.{Bool, false}
 use mathlib.Core.List.{List, [], _∷_, _++_}
+use lib.Dec.{eqb}
 use lib.ListN.{length, getD, take, drop}
 use Rattle.lines.specs.Lines.{lineFeed, linesOf}
 use Rattle.lines.specs.Kept.{lineMost, NoFeed}
@@ -66,6 +68,7 @@ pub record EndedAs (walk : Walk) (course : Course) : Type 0 where
 -- A line was taken: for all lines to come, what is printed and what is still to be printed are what was to be printed.
 pub record LineTaken (number : ℕ) (before : List (List ℕ) → List ℕ) (out : List ℕ) (at : ℕ) (taken : Taken) (shelves packets out-left : List ℕ) : Type 0 where
   pub prints : (lines : List (List ℕ)) → take (taken .end) out-left ++ forCourse (taken .course) shelves packets lines ≡ take at out ++ before lines
+  pub no-more : forCourse (taken .course) shelves packets [] ≡ []
   pub fresh : taken .course .line .length ≡ 0
   pub line-long : length (taken .course .line .bytes) ≡ lineMost
   pub bounded : Bounded (taken .course .walk)
@@ -83,6 +86,15 @@ pub record TextTaken (course : Course) (text : List ℕ) (from : ℕ) (shelves p
   pub inside : went .next ≤ length text
   pub high : went .end ≤ at + answerMost
   pub counts : went .course .number ≤ course .number + 1
+
+-- No line is left: line one has come, and nothing after the last line feed.
+abbrev pub doneAt : Stage → ℕ → Bool
+doneAt First kept = false
+doneAt Walking kept = eqb kept 0
+doneAt Ended kept = eqb kept 0
+
+abbrev pub isDone : Course → Bool
+isDone course = doneAt (course .stage) (course .line .length)
 
 -- A piece of the input was taken.
 pub record PieceTaken (course : Course) (text shelves packets : List ℕ) (taken : Taken) (shelves-left packets-left out-left : List ℕ) : Type 0 where

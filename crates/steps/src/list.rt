@@ -20,7 +20,7 @@ ghost use Rattle.lines.specs.Kept.{lineMost};
 ghost use Rattle.steps.specs.Session.{opened};
 ghost use Rattle.steps.specs.Memory.{sessionIn, slotsMost, shelvesSize, packetsSize, Bounded};
 ghost use Rattle.steps.specs.Printed.{lineOf, badFirst, walkedFrom, walked, printed};
-ghost use Rattle.steps.specs.Course.{lineIn, forCourse, still, numberMost, Ready, EndedAs, LineEnd, KeptMore, LineTaken, TextTaken, PieceTaken, Finished};
+ghost use Rattle.steps.specs.Course.{lineIn, forCourse, still, numberMost, isDone, Ready, EndedAs, LineEnd, KeptMore, LineTaken, TextTaken, PieceTaken, Finished};
 
 // A readable line is shorter than this.
 const LINE_MOST: usize = 20;
@@ -121,13 +121,7 @@ fn begin(n: u32, slots: u32, shelves: &mut [u8], at: usize) -> Taken
 }
 
 // Line one.
-fn take_opening(
-    walk: Walk,
-    line: &[u8],
-    shelves: &mut [u8],
-    out: &mut [u8],
-    at: usize,
-) -> Taken
+fn take_opening(walk: Walk, line: &[u8], shelves: &mut [u8], out: &mut [u8], at: usize) -> Taken
     requires { ⌜ Bounded walk × (length (now shelves) ≡ shelvesSize) × (at + answerMost ≤ length (now out)) ⌝ }
     ensures { λ r. ⌜ ((number : ℕ) (packets : List ℕ) → LineTaken number (walkedFrom (readOpening (now (line .entry)))) (now (out .entry)) at r (now (shelves .exit)) packets (now (out .exit))) ⌝ }
 {
@@ -201,15 +195,7 @@ fn take_line(
     let length = line.length;
     match stage {
         Stage::First => take_opening(walk, &bytes[..length], shelves, out, at),
-        Stage::Walking => take_step(
-            walk,
-            number,
-            &bytes[..length],
-            shelves,
-            packets,
-            out,
-            at,
-        ),
+        Stage::Walking => take_step(walk, number, &bytes[..length], shelves, packets, out, at),
         Stage::Ended => Taken {
             course: ended(walk),
             end: at,
@@ -248,5 +234,94 @@ fn keep(line: Line, text: &[u8]) -> Line
     Line {
         bytes,
         length: length + more,
+    }
+}
+
+// The text from a place on is taken, up to a line feed or to its end.
+fn take_text(
+    course: Course,
+    text: &[u8],
+    from: usize,
+    shelves: &mut [u8],
+    packets: &mut [u8],
+    out: &mut [u8],
+    at: usize,
+) -> Went
+    requires { ⌜ Ready course × (course .number < numberMost) × (from < length (now text)) × (length (now shelves) ≡ shelvesSize) × (length (now packets) ≡ packetsSize) × (at + answerMost ≤ length (now out)) ⌝ }
+    ensures { λ r. ⌜ TextTaken course (now (text .entry)) from (now (shelves .entry)) (now (packets .entry)) (now (out .entry)) at r (now (shelves .exit)) (now (packets .exit)) (now (out .exit)) ⌝ }
+{
+    let feed = line_end(text, from);
+    let line = keep(course.line, &text[from..feed]);
+    let stage = course.stage;
+    let number = course.number;
+    let walk = course.walk;
+    let kept = Course {
+        stage,
+        number,
+        line,
+        walk,
+    };
+    if feed == text.len() {
+        return Went {
+            course: kept,
+            end: at,
+            next: feed,
+        };
+    }
+    let taken = take_line(kept, shelves, packets, out, at);
+    let course = taken.course;
+    let next = feed + 1;
+    Went {
+        course,
+        end: taken.end,
+        next,
+    }
+}
+
+// A piece of the input is taken. What it prints stands at the start of the output.
+pub fn take_piece(
+    course: Course,
+    text: &[u8],
+    shelves: &mut [u8],
+    packets: &mut [u8],
+    out: &mut [u8],
+) -> Taken
+    requires { ⌜ Ready course × (course .number + length (now text) ≤ numberMost) × (length (now shelves) ≡ shelvesSize) × (length (now packets) ≡ packetsSize) × (answerMost * length (now text) ≤ length (now out)) ⌝ }
+    ensures { λ r. ⌜ PieceTaken course (now (text .entry)) (now (shelves .entry)) (now (packets .entry)) r (now (shelves .exit)) (now (packets .exit)) (now (out .exit)) ⌝ }
+{
+    let mut now = course;
+    let mut end = 0;
+    let mut from = 0;
+    while from < text.len() {
+        let went = take_text(now, text, from, shelves, packets, out, end);
+        now = went.course;
+        end = went.end;
+        from = went.next;
+    }
+    Taken { course: now, end }
+}
+
+// The input has ended: text after the last line feed is a line too.
+pub fn finish(course: Course, shelves: &mut [u8], packets: &mut [u8], out: &mut [u8]) -> usize
+    requires { ⌜ Ready course × (course .number < numberMost) × (length (now shelves) ≡ shelvesSize) × (length (now packets) ≡ packetsSize) × (answerMost ≤ length (now out)) ⌝ }
+    ensures { λ r. ⌜ Finished course (now (shelves .entry)) (now (packets .entry)) r (now (out .exit)) ⌝ }
+{
+    if is_done(course) {
+        return 0;
+    }
+    let taken = take_line(course, shelves, packets, out, 0);
+    taken.end
+}
+
+// No line is left: line one has come, and nothing after the last line feed.
+fn is_done(course: Course) -> bool
+    ensures { λ r. ⌜ r ≡ isDone course ⌝ }
+{
+    let line = course.line;
+    let stage = course.stage;
+    match stage {
+        Stage::First => false,
+        Stage::Walking => line.length == 0,
+        Stage::Ended => line.length == 0,
     }
 }

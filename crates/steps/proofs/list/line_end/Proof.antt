@@ -41,12 +41,15 @@ loop-less c = search needs
 
 -- src/list.rt:215:5
 loop-again : tie.Need-loop-again Inv-loop μ-loop
-loop-again c = let turn = c .before .before .before in
-    (omega arith, omega arith, λ j low high e.
+loop-again c = let turn = c .before .before .before in (
+  omega arith,
+  omega arith,
+  λ j low high e.
       elim (decLt j (turn .loop .k)) [
         | yes below ↦ turn .loop .inv .2 j low below e
         | no above ↦ let here : j ≡ turn .loop .k = omega arith in c .if1 .left (sym (ap (λ (i : ℕ). getD (now (turn .before .args .text)) i 0) here) ∙ e)
-      ])
+      ],
+)
 
 -- src/list.rt:211:1
 returns-2 : tie.Need-returns-2 Inv-loop μ-loop

@@ -30,9 +30,10 @@ same-length c = search needs
 -- src/list.rt:147:1
 returns : tie.Need-returns
 returns c = let wrote = c .before .before in
-    let start = wrote .before .before .before .before .before .before in
-    (wrote .put-answer .ensures,
-    answer-line-short (record { number-fits = number-fits start; answer-fits = answer-fits start; sender-fits = sender-fits start; edit-fits = edit-fits start }))
+    let start = wrote .before .before .before .before .before .before in (
+      wrote .put-answer .ensures,
+      answer-line-short (record { number-fits = number-fits start; answer-fits = answer-fits start; sender-fits = sender-fits start; edit-fits = edit-fits start }),
+    )
 
 pub put-report-spec : {M : Type 1} → statement M
 put-report-spec = tie.close (tie.spec put-answer-requires same-length returns)

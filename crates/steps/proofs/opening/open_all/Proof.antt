@@ -57,9 +57,11 @@ loop-again c = let done = c .before .before in
     let turn = done .before .before .before in
     let start = turn .before .before .before in
     let less = done .before .before .loop-test .taken in
-    let long : length (done .open-at .last .1 .1 .1 .0) ≡ length (turn .loop .shelves) = search needs in
-    (omega (arith, less), long ∙ turn .loop .inv .1,
-    one-more-opened (start .args .n) (start .args .slots) (start .pre .0) (start .pre .1) (turn .loop .at) (turn .loop .seats) (turn .loop .shelves) (done .open-at .result) _ less (turn .loop .inv .1) (turn .loop .inv .2) (done .open-at .ensures))
+    let long : length (done .open-at .last .1 .1 .1 .0) ≡ length (turn .loop .shelves) = search needs in (
+      omega (arith, less),
+      long ∙ turn .loop .inv .1,
+      one-more-opened (start .args .n) (start .args .slots) (start .pre .0) (start .pre .1) (turn .loop .at) (turn .loop .seats) (turn .loop .shelves) (done .open-at .result) _ less (turn .loop .inv .1) (turn .loop .inv .2) (done .open-at .ensures),
+    )
 
 -- src/opening.rt:40:1
 same-length : tie.Need-same-length Inv-loop μ-loop
