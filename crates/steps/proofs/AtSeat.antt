@@ -1,10 +1,9 @@
 -- What the three calls leave, where they are given the pieces of one seat.
 use Prim.Native.Nat.{ℕ, _+_, _*_, _-_, _≤_}
-use mathlib.Core.Path.{_≡_, subst, sym, ap, _∙_}
+use mathlib.Core.Path.{_≡_, subst, ap, _∙_}
 use mathlib.Core.List.{List, []}
 use lib.ListN.{length, take, drop, length-set}
 use borrow.Rule.Slice.PartMut.{putMid}
-use Rattle.answers.specs.declared.Answer.{Answer}
 use Rattle.packet.specs.Packet.{packetLength}
 use Rattle.packet.specs.declared.Kind.{Kind}
 use Rattle.packet.specs.declared.Kind.the-variants.{Ordinary, Causal}

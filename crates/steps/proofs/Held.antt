@@ -1,20 +1,20 @@
 -- The session that is held: its places and letters, and what another state, shelf or packet makes of it.
-use Prim.Native.Nat.{ℕ, zero, suc, _+_, _*_, _-_, _≤_, _<_}
-use mathlib.Core.Bool.{Bool, true, false, _&&_}
-use mathlib.Core.Path.{_≡_, refl, subst, sym, ap, _∙_}
-use mathlib.Core.List.{List, [], _∷_, _++_}
+use Prim.Native.Nat.{ℕ, suc, _+_, _*_, _-_, _≤_, _<_}
+use mathlib.Core.Bool.{Bool, _&&_}
+use mathlib.Core.Path.{_≡_, sym, ap, _∙_}
+use mathlib.Core.List.{List, _++_}
 use native.Mathlib.Nat.{mul-suc, mul-le-mul-left}
 use native.Mathlib.Decide.{ℕ-discrete}
 use native.Mathlib.Omega.{arith}
-use lib.Dec.{leb, ltb, eqb}
+use lib.Dec.{eqb}
 use lib.ListN.{length, getD, set, take, drop, length-set, length-append, length-drop}
 use lib.Seq.{getD-set-same, getD-set-other, length-take-le}
 use Rattle.shelf.specs.Shelf.{lowest}
-use Rattle.shelf.proofs.Lowest.{Lowest, lowest-is-lowest, only-lowest}
+use Rattle.shelf.proofs.Lowest.{lowest-is-lowest, only-lowest}
 use Rattle.shelf.proofs.Pieces.{put-reads-back, put-keeps-others}
 use Rattle.seat.specs.declared.Seat.{Seat}
-use Rattle.steps.specs.Session.{Place, Letter, Session, placeOf, noPlace, nobody, letterAt, noLetter, found, withPlace, listOf}
-use Rattle.steps.specs.Memory.{piece, withPiece, shelfSize, seatIn, shelfIn, placeIn, packetIn, letterIn, sessionIn, shelvesSize, Bounded, isSeated, foundIn, withSeat}
+use Rattle.steps.specs.Session.{Letter, placeOf, noPlace, nobody, letterAt, noLetter, found, withPlace, listOf}
+use Rattle.steps.specs.Memory.{withPiece, shelfSize, placeIn, letterIn, sessionIn, shelvesSize, Bounded, foundIn, withSeat}
 use Rattle.steps.specs.declared.walk.Walk.{Walk}
 use Rattle.steps.proofs.ListOf.{length-listOf, listOf-at, set-listOf}
 

@@ -7,3 +7,4 @@ pub mod Sends
 pub mod Opened
 pub mod Printing
 pub mod Texts
+pub mod WholeInput

@@ -1,29 +1,27 @@
 -- Opening a session: each seat is opened, and so are all.
-use Prim.Native.Nat.{ℕ, zero, suc, _+_, _*_, _-_, _/_, _%_, _≤_, _<_}
-use mathlib.Core.Bool.{Bool, true, false, _&&_}
-use mathlib.Core.Path.{_≡_, refl, subst, sym, ap, _∙_}
-use mathlib.Core.List.{List, [], _∷_, _++_}
+use Prim.Native.Nat.{ℕ, suc, _+_, _*_, _-_, _≤_, _<_}
+use mathlib.Core.Bool.{true}
+use mathlib.Core.Path.{_≡_, subst, sym, ap, _∙_}
+use mathlib.Core.List.{List}
 use native.Mathlib.Nat.{mul-suc, mul-le-mul-left, mul-mod-left, mul-div-cancel, not-suc-le-zero}
 use native.Mathlib.Numerals.{add-one}
 use native.Mathlib.Decide.{ℕ-discrete}
 use native.Mathlib.Omega.{arith}
-use borrow.Author.Tests.{le-leb, eq-eqb}
+use borrow.Author.Tests.{le-leb}
 use borrow.Rule.Slice.PartMut.{putMid}
-use lib.Dec.{leb, eqb}
 use lib.ListN.{length, getD, set, take, drop, replicate, length-set, length-replicate}
 use lib.Seq.{getD-set-same, getD-set-other}
 use Rattle.answers.specs.Answers.{seatNo}
-use Rattle.answers.specs.declared.Answer.{Answer}
 use Rattle.answers.specs.declared.Answer.the-variants.{Opened}
 use Rattle.packet.specs.Writing.{inRange}
 use Rattle.shelf.specs.Shelf.{slotSize, wholeSlots}
-use Rattle.shelf.proofs.Pieces.{length-piece, length-put, put-reads-back, put-keeps-others}
+use Rattle.shelf.proofs.Pieces.{length-piece, put-reads-back, put-keeps-others}
 use Rattle.seat.specs.State.{counting}
 use Rattle.seat.specs.Opening.{openAnswer, openedSeat, openedShelf, OpenedAs}
 use Rattle.seat.specs.declared.Seat.{Seat}
 use Rattle.seat.specs.declared.Stepped.{Stepped}
 use Rattle.seat.proofs.OpenAnswers.{opening-answers-0}
-use Rattle.steps.specs.Session.{Place, nobody, openedPlace, opened, listOf}
+use Rattle.steps.specs.Session.{nobody, openedPlace, opened, listOf}
 use Rattle.steps.specs.Memory.{piece, withPiece, placeIn, letterIn, sessionIn, slotsMost, shelvesSize, Bounded, OpenedIn, AllOpened}
 use Rattle.steps.specs.declared.walk.Walk.{Walk}
 use Rattle.steps.proofs.Parts.{part-lent, part-back}

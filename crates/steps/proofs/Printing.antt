@@ -1,31 +1,28 @@
 -- What a line prints, and what is still to be printed after it.
-use Prim.Native.Nat.{ℕ, zero, suc, _+_, _*_, _-_, _≤_, _<_, min}
-use mathlib.Core.Bool.{Bool, true, false, cond, _&&_}
+use Prim.Native.Nat.{ℕ, suc, _+_, _-_, _≤_, _<_, min}
+use mathlib.Core.Bool.{true, false, _&&_}
 use mathlib.Core.Path.{_≡_, refl, subst, sym, ap, _∙_}
 use mathlib.Core.List.{List, [], _∷_, _++_, append-assoc, append-nil}
 use native.Mathlib.Nat.{min-eq-left, min-eq-right}
 use native.Mathlib.Numerals.{add-one}
 use native.Mathlib.Decide.{decLe}
 use native.Mathlib.Omega.{arith}
-use borrow.Author.Tests.{le-leb}
 use lib.Dec.{leb}
-use lib.ListN.{length, getD, take, drop, length-append, length-take, length-drop}
+use lib.ListN.{length, take, drop, length-append, length-take}
 use lib.Seq.{sets, sets-eq, take-at, take-all, length-take-le, length-sets, take-append-add, getD-take}
-use Rattle.answers.specs.Answers.{bare}
-use Rattle.answers.specs.declared.Report.{Report}
-use Rattle.lines.specs.Lines.{lineFeed, linesOf, readStep, readOpening}
+use Rattle.lines.specs.Lines.{linesOf, readStep, readOpening}
 use Rattle.lines.specs.Kept.{lineMost, NoFeed, firstLine, otherLines}
-use Rattle.lines.specs.AnswerLine.{answerLine, answerMost, Wrote}
+use Rattle.lines.specs.AnswerLine.{answerMost, Wrote}
 use Rattle.lines.specs.declared.Opening.{Opening}
 use Rattle.lines.specs.declared.Opening.the-variants as opening
 use Rattle.lines.specs.declared.Step.{Step}
 use Rattle.lines.proofs.LongLines.{long-step, long-opening}
 use Rattle.lines.proofs.AnswerLength.{answer-line-short}
-use Rattle.lines.proofs.Cut.{cut-feed, cut-last, cut-first, no-feed-none}
-use Rattle.steps.specs.Session.{Session, Told, stepTold, opened}
+use Rattle.lines.proofs.Cut.{cut-first, no-feed-none}
+use Rattle.steps.specs.Session.{Session, stepTold, opened}
 use Rattle.steps.specs.Memory.{sessionIn, Bounded, Walks}
 use Rattle.steps.specs.Printed.{lineOf, walked, badFirst, walkedFrom, printedLines, printed}
-use Rattle.steps.specs.Course.{lineIn, forLines, forCourse, still, Ready, EndedAs, KeptMore, LineTaken}
+use Rattle.steps.specs.Course.{lineIn, forLines, still, Ready, EndedAs, KeptMore, LineTaken}
 use Rattle.steps.specs.declared.list.Line.{Line}
 use Rattle.steps.specs.declared.list.Stage.{Stage}
 use Rattle.steps.specs.declared.list.Stage.the-variants.{First, Walking, Ended}

@@ -1,16 +1,16 @@
 -- A send: what the call leaves in memory is what the session is told.
-use Prim.Native.Nat.{ℕ, zero, suc, _+_, _*_, _-_, _≤_, _<_}
-use mathlib.Core.Bool.{Bool, true, false, cond, _&&_}
+use Prim.Native.Nat.{ℕ, suc, _+_, _*_, _-_, _≤_, _<_}
+use mathlib.Core.Bool.{true, false, cond}
 use mathlib.Core.Path.{_≡_, refl, subst, sym, ap, _∙_}
 use mathlib.Core.List.{List, [], _∷_, _++_}
 use native.Mathlib.Numerals.{add-one}
 use native.Mathlib.Nat.{mul-suc, mul-le-mul-left}
 use native.Mathlib.Omega.{arith}
 use borrow.Author.Tests.{le-leb, lt-leb}
-use lib.Dec.{leb, ltb}
-use lib.ListN.{length, getD, set, take, drop, length-set}
+use lib.Dec.{leb}
+use lib.ListN.{length, getD, set, take, length-set}
 use lib.Seq.{getD-set-same, getD-set-other, take-at}
-use Rattle.answers.specs.Answers.{bare, report, firstOf}
+use Rattle.answers.specs.Answers.{report}
 use Rattle.answers.specs.declared.Answer.{Answer}
 use Rattle.answers.specs.declared.Answer.the-variants.{Opened, Done, Shelved, NothingReady, Refused}
 use Rattle.answers.specs.declared.Edit.{Edit}
@@ -21,8 +21,8 @@ use Rattle.seat.specs.Sending.{kindOf, packetSent, sentSeat, sendRefusals, send
 use Rattle.seat.specs.declared.Seat.{Seat}
 use Rattle.seat.specs.declared.Wish.{Wish}
 use Rattle.seat.proofs.Sent.{sending-keeps-seats}
-use Rattle.steps.specs.Session.{Place, Letter, Session, Told, unknown, placeOf, nobody, sendsMost, packetMost, room, counted, lettersAfter, sent, sendTold, listOf}
-use Rattle.steps.specs.Memory.{piece, withPiece, shelfSize, seatIn, shelfIn, placeIn, packetIn, letterIn, sessionIn, packetsSize, Bounded, Walks, isSeated, withSend, withSeat, withLetter, walkedTo, SentAt}
+use Rattle.steps.specs.Session.{Letter, Session, Told, unknown, nobody, sendsMost, packetMost, room, counted, lettersAfter, sent, sendTold, listOf}
+use Rattle.steps.specs.Memory.{piece, withPiece, seatIn, shelfIn, placeIn, packetIn, letterIn, sessionIn, packetsSize, Bounded, Walks, isSeated, withSend, withSeat, withLetter, SentAt}
 use Rattle.steps.specs.declared.walk.Walk.{Walk}
 use Rattle.steps.specs.declared.walk.Walked.{Walked}
 use Rattle.steps.proofs.ListOf.{same-listOf, set-listOf}

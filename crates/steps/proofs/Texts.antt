@@ -1,5 +1,5 @@
 -- Text that comes in pieces: up to a line feed or to a piece's end, a whole piece, and the end of the input.
-use Prim.Native.Nat.{ℕ, zero, suc, _+_, _*_, _-_, _≤_, _<_}
+use Prim.Native.Nat.{ℕ, _+_, _*_, _-_, _≤_, _<_}
 use mathlib.Core.Bool.{Bool, true, false}
 use mathlib.Core.Path.{_≡_, refl, subst, sym, ap, _∙_}
 use mathlib.Core.List.{List, [], _∷_, _++_, append-assoc, append-nil}
@@ -10,13 +10,13 @@ use borrow.Author.Tests.{eqb-true, eqb-false}
 use lib.Dec.{eqb}
 use lib.ListN.{length, getD, take, drop, length-append, length-take, length-drop, take-append-drop, List·getD-append}
 use lib.Seq.{length-take-le, take-all, drop-length, drop-drop, drop-cons, getD-take, getD-drop, getD-append-add}
-use Rattle.lines.specs.Lines.{lineFeed, linesOf, words, readNumbers, readOpening}
+use Rattle.lines.specs.Lines.{lineFeed, linesOf, words, readNumbers}
 use Rattle.lines.specs.Kept.{lineMost, NoFeed}
 use Rattle.lines.specs.AnswerLine.{answerMost}
 use Rattle.lines.proofs.Cut.{cut-feed, cut-last, no-feed-none}
 use Rattle.steps.specs.Session.{Session}
-use Rattle.steps.specs.Memory.{sessionIn, Bounded}
-use Rattle.steps.specs.Printed.{badFirst, walked, walkedFrom, printedLines}
+use Rattle.steps.specs.Memory.{sessionIn}
+use Rattle.steps.specs.Printed.{walked, printedLines}
 use Rattle.steps.specs.Course.{lineIn, forLines, forCourse, still, Ready, LineEnd, KeptMore, LineTaken, TextTaken, PieceTaken, doneAt, isDone, Finished}
 use Rattle.steps.specs.declared.list.Line.{Line}
 use Rattle.steps.specs.declared.list.Stage.{Stage}

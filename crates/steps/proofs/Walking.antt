@@ -1,33 +1,25 @@
 -- The three kinds of step: what a call leaves in memory is what the session is told.
-use Prim.Native.Nat.{ℕ, zero, suc, _+_, _*_, _-_, _≤_, _<_}
+use Prim.Native.Nat.{ℕ, _+_, _*_, _-_, _≤_, _<_}
 use mathlib.Core.Bool.{Bool, true, false, cond, _&&_}
 use mathlib.Core.Path.{_≡_, refl, subst, sym, ap, _∙_}
-use mathlib.Core.List.{List, [], _∷_, _++_}
-use native.Mathlib.Nat.{add-zero}
-use native.Mathlib.Numerals.{add-one}
+use mathlib.Core.List.{List, []}
 use native.Mathlib.Omega.{arith}
-use borrow.Author.Tests.{leb-true, leb-false, lt-ltb, le-ltb, le-leb, lt-leb}
-use lib.Dec.{leb, ltb, eqb}
-use lib.ListN.{length, getD, set, take, drop, replicate, length-replicate}
-use lib.Seq.{getD-set-same, getD-set-other, take-at}
-use Rattle.answers.specs.Answers.{bare, report, firstOf}
+use borrow.Author.Tests.{leb-true, lt-ltb, le-ltb}
+use lib.Dec.{leb, ltb}
+use lib.ListN.{length}
+use Rattle.answers.specs.Answers.{bare, report}
 use Rattle.answers.specs.declared.Answer.{Answer}
 use Rattle.answers.specs.declared.Answer.the-variants.{Opened, Done, Shelved, NothingReady, Refused}
-use Rattle.answers.specs.declared.Report.{Report}
 use Rattle.vectors.proofs.Every.{and-both}
-use Rattle.packet.specs.Packet.{packetLength, pastOf, barrierOf}
-use Rattle.packet.specs.Writing.{outputAfter}
-use Rattle.shelf.proofs.Pieces.{length-piece, put-reads-back, put-keeps-others}
-use Rattle.seat.specs.Sending.{kindOf, packetSent, sentSeat, sendRefusals, sendAnswer, seatAfter}
+use Rattle.packet.specs.Packet.{pastOf, barrierOf}
+use Rattle.seat.specs.Sending.{seatAfter}
 use Rattle.seat.specs.HandingOver.{handOver}
 use Rattle.seat.specs.Arriving.{headingOf, arriveAnswer, shelfAfter}
 use Rattle.seat.specs.Releasing.{chosenPacket, releaseAnswer, shelfAfterRelease}
 use Rattle.seat.specs.declared.Seat.{Seat}
-use Rattle.seat.specs.declared.Wish.{Wish}
-use Rattle.seat.proofs.Sent.{sending-keeps-seats}
 use Rattle.seat.proofs.HandedOver.{handing-over-keeps-seats}
-use Rattle.steps.specs.Session.{Place, Letter, Session, Told, unknown, seated, placeOf, withPlace, letterAt, found, arrived, arrivedPacket, arriveTold, released, releaseTold}
-use Rattle.steps.specs.Memory.{piece, withPiece, shelfSize, seatIn, shelfIn, placeIn, packetIn, letterIn, sessionIn, shelvesSize, Bounded, Walks, isSeated, foundIn, withSeat, walkedTo, ArrivedAt, ReleasedAt}
+use Rattle.steps.specs.Session.{Letter, Told, unknown, seated, placeOf, withPlace, letterAt, found, arrived, arrivedPacket, arriveTold, released, releaseTold}
+use Rattle.steps.specs.Memory.{withPiece, shelfSize, seatIn, shelfIn, placeIn, packetIn, sessionIn, shelvesSize, Bounded, Walks, isSeated, foundIn, walkedTo, ArrivedAt, ReleasedAt}
 use Rattle.steps.specs.declared.walk.Walk.{Walk}
 use Rattle.steps.specs.declared.walk.Walked.{Walked}
 use Rattle.steps.proofs.Held.{back-as-long, shelf-inside, place-held, letters-held, letter-held, found-held, session-after, still-bounded}

@@ -1,8 +1,8 @@
 -- How far a list has come: what is still to be printed when the input comes in pieces.
 use Prim.Native.Nat.{ℕ, _+_, _*_, _≤_, _<_}
 use mathlib.Core.Path.{_≡_}
-use mathlib.Core.Bool.{Bool, false}
-use mathlib.Core.List.{List, [], _∷_, _++_}
+use mathlib.Core.Bool.{Bool, true, false}
+use mathlib.Core.List.{List, [], _++_}
 use lib.Dec.{eqb}
 use lib.ListN.{length, getD, take, drop}
 use Rattle.lines.specs.Lines.{lineFeed, linesOf}
@@ -95,6 +95,12 @@ doneAt Ended kept = eqb kept 0
 
 abbrev pub isDone : Course → Bool
 isDone course = doneAt (course .stage) (course .line .length)
+
+-- Nothing more is printed, whatever comes.
+abbrev pub isOver : Stage → Bool
+isOver First = false
+isOver Walking = false
+isOver Ended = true
 
 -- A piece of the input was taken.
 pub record PieceTaken (course : Course) (text shelves packets : List ℕ) (taken : Taken) (shelves-left packets-left out-left : List ℕ) : Type 0 where

@@ -2,3 +2,4 @@ pub mod Session
 pub mod Printed
 pub mod Memory
 pub mod Course
+pub mod WholeInput

@@ -11,16 +11,15 @@ use lines::read_step;
 use vectors::bytes::put_bytes;
 ghost use mathlib.Core.Path.{_≡_};
 ghost use Prim.Native.Nat.{ℕ, _+_, _*_, _≤_, _<_, min};
-ghost use mathlib.Core.List.{List, _∷_, _++_};
-ghost use lib.ListN.{length, take};
-ghost use Rattle.answers.specs.Answers.{bare};
-ghost use Rattle.lines.specs.Lines.{readStep, readOpening};
+ghost use mathlib.Core.List.{List, _∷_};
+ghost use lib.ListN.{length};
+ghost use Rattle.lines.specs.Lines.{readOpening};
 ghost use Rattle.lines.specs.AnswerLine.{answerMost, Wrote};
 ghost use Rattle.lines.specs.Kept.{lineMost};
 ghost use Rattle.steps.specs.Session.{opened};
 ghost use Rattle.steps.specs.Memory.{sessionIn, slotsMost, shelvesSize, packetsSize, Bounded};
 ghost use Rattle.steps.specs.Printed.{lineOf, badFirst, walkedFrom, walked, printed};
-ghost use Rattle.steps.specs.Course.{lineIn, forCourse, still, numberMost, isDone, Ready, EndedAs, LineEnd, KeptMore, LineTaken, TextTaken, PieceTaken, Finished};
+ghost use Rattle.steps.specs.Course.{lineIn, forCourse, still, numberMost, isDone, isOver, Ready, EndedAs, LineEnd, KeptMore, LineTaken, TextTaken, PieceTaken, Finished};
 
 // A readable line is shorter than this.
 const LINE_MOST: usize = 20;
@@ -66,6 +65,19 @@ fn no_line() -> Line
         bytes: [0; 20],
         length: 0,
     }
+}
+
+// The buffers, which have room for every session.
+pub fn no_shelves() -> [u8; 34304]
+    ensures { λ r. ⌜ length r ≡ shelvesSize ⌝ }
+{
+    [0; 34304]
+}
+
+pub fn no_packets() -> [u8; 17152]
+    ensures { λ r. ⌜ length r ≡ packetsSize ⌝ }
+{
+    [0; 17152]
 }
 
 // A list of which nothing has come.
@@ -323,5 +335,17 @@ fn is_done(course: Course) -> bool
         Stage::First => false,
         Stage::Walking => line.length == 0,
         Stage::Ended => line.length == 0,
+    }
+}
+
+// Whether nothing more is printed, whatever comes.
+pub fn is_over(course: Course) -> bool
+    ensures { λ r. ⌜ r ≡ isOver (course .stage) ⌝ }
+{
+    let stage = course.stage;
+    match stage {
+        Stage::First => false,
+        Stage::Walking => false,
+        Stage::Ended => true,
     }
 }

@@ -1,17 +1,13 @@
+-- `ended` meets its contract.
 use mathlib.Core.Path.{refl}
 use Rattle.steps.specs.Course.{forLines}
 use borrow.Author.Needs.{needs}
 use Rattle.steps.proofs.list.ended.Statement.{statement}
 use Rattle.steps.proofs.list.ended.Tie as tie
-use Rattle.steps.proofs.list.ended.Reads as reads
-use Rattle.steps.proofs.list.ended.Lts as lts
-use Rattle.steps.proofs.list.no_line.Reads as no-line-reads
 
--- src/list.rt:80:15
 no-line-requires : tie.Need-no-line-requires
 no-line-requires c κs = search needs
 
--- src/list.rt:74:1
 returns : tie.Need-returns
 unfolding forLines
 returns c = let line = c .no-line .ensures in

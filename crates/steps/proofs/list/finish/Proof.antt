@@ -1,41 +1,31 @@
+-- `finish` meets its contract.
 use mathlib.Core.Path.{sym, _∙_}
 use denote.Ref.{now}
 use Rattle.steps.proofs.Texts.{done-finished, line-finished}
 use borrow.Author.Needs.{needs}
 use Rattle.steps.proofs.list.finish.Statement.{statement}
 use Rattle.steps.proofs.list.finish.Tie as tie
-use Rattle.steps.proofs.list.finish.Reads as reads
-use Rattle.steps.proofs.list.finish.Lts as lts
-use Rattle.steps.proofs.list.is_done.Reads as is-done-reads
-use Rattle.steps.proofs.list.take_line.Reads as take-line-reads
 
--- src/list.rt:327:8
 is-done-requires : tie.Need-is-done-requires
 is-done-requires c κs = search needs
 
--- src/list.rt:328:9
 returns : tie.Need-returns
 returns c = let start = c .before .before .before .before .before in
     let a = start .args in
     done-finished (a .course) (now (a .shelves)) (now (a .packets)) (now (a .out)) (sym (c .before .is-done .ensures) ∙ c .if1 .taken)
 
--- src/list.rt:330:9
 take-line-requires : tie.Need-take-line-requires
 take-line-requires c κs = search needs
 
--- src/list.rt:318:1
 same-length : tie.Need-same-length
 same-length c = search needs
 
--- src/list.rt:318:1
 same-length-2 : tie.Need-same-length-2
 same-length-2 c = search needs
 
--- src/list.rt:318:1
 same-length-3 : tie.Need-same-length-3
 same-length-3 c = search needs
 
--- src/list.rt:318:1
 returns-2 : tie.Need-returns-2
 returns-2 c = let done = c .before .before .before .before .before .before in
     let other = done .before .before .before .before in

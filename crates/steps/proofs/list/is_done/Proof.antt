@@ -1,34 +1,27 @@
+-- `is_done` meets its contract.
 use mathlib.Core.Path.{sym, ap}
 use Rattle.steps.specs.Course.{doneAt}
 use Rattle.steps.specs.declared.list.Stage.{Stage}
 use borrow.Author.Needs.{needs}
 use Rattle.steps.proofs.list.is_done.Statement.{statement}
 use Rattle.steps.proofs.list.is_done.Tie as tie
-use Rattle.steps.proofs.list.is_done.Reads as reads
-use Rattle.steps.proofs.list.is_done.Lts as lts
 
--- src/list.rt:341:25
 enum-told : tie.Need-enum-told
 enum-told c = search needs
 
--- src/list.rt:342:27
 enum-told-2 : tie.Need-enum-told-2
 enum-told-2 c = search needs
 
--- src/list.rt:343:25
 enum-told-3 : tie.Need-enum-told-3
 enum-told-3 c = search needs
 
--- src/list.rt:335:1
 returns : tie.Need-returns
 returns c = search needs
 
--- src/list.rt:335:1
 returns-2 : tie.Need-returns-2
 returns-2 c = let met = c .before in
     ap (λ (stage : Stage). doneAt stage (met .before .before .before .args .course .line .length)) (sym (met .enum-told2 .given .1))
 
--- src/list.rt:335:1
 returns-3 : tie.Need-returns-3
 returns-3 c = let met = c .before in
     ap (λ (stage : Stage). doneAt stage (met .before .before .before .args .course .line .length)) (sym (met .enum-told3 .given .1))

@@ -1,3 +1,4 @@
+-- `keep` meets its contract.
 use mathlib.Core.Path.{sym}
 use denote.Ref.{now}
 use native.Mathlib.Omega.{arith}
@@ -6,38 +7,27 @@ use Rattle.steps.proofs.Printing.{kept-more}
 use borrow.Author.Needs.{needs}
 use Rattle.steps.proofs.list.keep.Statement.{statement}
 use Rattle.steps.proofs.list.keep.Tie as tie
-use Rattle.steps.proofs.list.keep.Reads as reads
-use Rattle.steps.proofs.list.keep.Lts as lts
-use Rattle.steps.proofs.list.least.Reads as least-reads
-use Rattle.vectors.proofs.bytes.put_bytes.Reads as put-bytes-reads
 
--- src/list.rt:236:22
 sub-least : tie.Need-sub-least
 sub-least c = search needs
 
--- src/list.rt:236:9
 least-requires : tie.Need-least-requires
 least-requires c κs = search needs
 
--- src/list.rt:237:15
 slice-aggregate-put-bytes : tie.Need-slice-aggregate-put-bytes
 slice-aggregate-put-bytes c = search needs
 
--- src/list.rt:237:35
 slice-aggregate-put-bytes-2 : tie.Need-slice-aggregate-put-bytes-2
 slice-aggregate-put-bytes-2 c = let least = c .before .before in sym (length-take-le _ _ (omega (arith, least .least .ensures)))
 
--- src/list.rt:237:5
 put-bytes-requires : tie.Need-put-bytes-requires
 put-bytes-requires c κs = let least = c .before .before in
     let start = c .before .before .before .before .before in
     omega (arith, start .pre .0, start .pre .1, least .least .ensures, length-take-le (least .least .result) (now (start .args .text)) (omega (arith, least .least .ensures)))
 
--- src/list.rt:240:17
 add-t6 : tie.Need-add-t6
 add-t6 c = search needs
 
--- src/list.rt:230:1
 returns : tie.Need-returns
 returns c = let put = c .before in
     let least = c .before .before .before .before in

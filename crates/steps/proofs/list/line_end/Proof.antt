@@ -1,3 +1,4 @@
+-- `line_end` meets its contract.
 use Prim.Native.Nat.{ℕ, _-_, _≤_, _<_}
 use mathlib.Core.Path.{_≡_, sym, ap, _∙_}
 use denote.Ref.{now}
@@ -8,8 +9,6 @@ use Rattle.lines.specs.Lines.{lineFeed}
 use borrow.Author.Needs.{needs}
 use Rattle.steps.proofs.list.line_end.Statement.{statement}
 use Rattle.steps.proofs.list.line_end.Tie as tie
-use Rattle.steps.proofs.list.line_end.Reads as reads
-use Rattle.steps.proofs.list.line_end.Lts as lts
 
 abbrev Inv-loop : tie.InvT-loop
 Inv-loop text from k₀ k-end k =
@@ -18,28 +17,22 @@ Inv-loop text from k₀ k-end k =
 abbrev μ-loop : tie.MeasureT-loop
 μ-loop text from k₀ k-end k = length text - k
 
--- src/list.rt:215:5
 loop-holds : tie.Need-loop-holds Inv-loop μ-loop
 loop-holds c = (omega arith, c .pre, λ j low high e. omega arith)
 
--- src/list.rt:216:12
 shared-slice-read-if1 : tie.Need-shared-slice-read-if1 Inv-loop μ-loop
 shared-slice-read-if1 c = search needs
 
--- src/list.rt:217:13
 returns : tie.Need-returns Inv-loop μ-loop
 returns c = let turn = c .before .before .before in
     record { low = turn .loop .inv .0; high = turn .loop .inv .1; no-feed = turn .loop .inv .2; at-feed = λ h. c .if1 .taken }
 
--- src/list.rt:215:9
 add-k : tie.Need-add-k Inv-loop μ-loop
 add-k c = search needs
 
--- src/list.rt:215:5
 loop-less : tie.Need-loop-less Inv-loop μ-loop
 loop-less c = search needs
 
--- src/list.rt:215:5
 loop-again : tie.Need-loop-again Inv-loop μ-loop
 loop-again c = let turn = c .before .before .before in (
   omega arith,
@@ -51,7 +44,6 @@ loop-again c = let turn = c .before .before .before in (
       ],
 )
 
--- src/list.rt:211:1
 returns-2 : tie.Need-returns-2 Inv-loop μ-loop
 returns-2 c = let turn = c .before in
     record { low = turn .before .pre; high = omega arith; no-feed = λ j low high. turn .loop .inv .2 j low (omega arith); at-feed = λ h. omega arith }

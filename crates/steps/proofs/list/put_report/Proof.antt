@@ -1,11 +1,9 @@
+-- `put_report` meets its contract.
 use Prim.Native.Nat.{_^_, _<_}
 use Rattle.lines.proofs.AnswerLength.{answer-line-short}
 use borrow.Author.Needs.{needs}
 use Rattle.steps.proofs.list.put_report.Statement.{statement}
 use Rattle.steps.proofs.list.put_report.Tie as tie
-use Rattle.steps.proofs.list.put_report.Reads as reads
-use Rattle.steps.proofs.list.put_report.Lts as lts
-use Rattle.lines.proofs.answer.put_answer.Reads as put-answer-reads
 
 number-fits : (c : tie.Start) → c .args .number < 2 ^ 64
 number-fits c = search needs
@@ -19,15 +17,12 @@ sender-fits c = search needs
 edit-fits : (c : tie.Start) → c .args .report .edit .number .0 < 65536
 edit-fits c = search needs
 
--- src/list.rt:154:5
 put-answer-requires : tie.Need-put-answer-requires
 put-answer-requires c κs = search needs
 
--- src/list.rt:147:1
 same-length : tie.Need-same-length
 same-length c = search needs
 
--- src/list.rt:147:1
 returns : tie.Need-returns
 returns c = let wrote = c .before .before in
     let start = wrote .before .before .before .before .before .before in (

@@ -1,3 +1,4 @@
+-- `take_opening` meets its contract.
 use mathlib.Core.Path.{sym, ap, _∙_}
 use denote.Ref.{now}
 use mathlib.Core.Bool.{_&&_}
@@ -10,21 +11,13 @@ use Rattle.steps.proofs.Printing.{good-opening, bad-opening, taken-alik
 use borrow.Author.Needs.{needs}
 use Rattle.steps.proofs.list.take_opening.Statement.{statement}
 use Rattle.steps.proofs.list.take_opening.Tie as tie
-use Rattle.steps.proofs.list.take_opening.Reads as reads
-use Rattle.steps.proofs.list.take_opening.Lts as lts
-use Rattle.lines.proofs.read_opening.Reads as read-opening-reads
-use Rattle.steps.proofs.list.begin.Reads as begin-reads
-use Rattle.steps.proofs.list.refuse_list.Reads as refuse-list-reads
 
--- src/list.rt:133:9
 read-opening-requires : tie.Need-read-opening-requires
 read-opening-requires c κs = search needs
 
--- src/list.rt:135:26
 enum-known-opening : tie.Need-enum-known-opening
 enum-known-opening c = search needs
 
--- src/list.rt:137:17
 begin-requires : tie.Need-begin-requires
 begin-requires c κs = let start = c .before .before .before .before .before .before .before .before .before in
     let told = c .before .before .before .opening .given .0 in
@@ -33,11 +26,9 @@ begin-requires c κs = let start = c .before .before .before .before .before .be
     let all = and-both (leb 1 n && leb n 16) (leb slots 8) (c .before .if1 .taken) in
     (leb-true n 16 (and-both (leb 1 n) (leb n 16) (all .0) .1), leb-true slots 8 (all .1), start .pre .1)
 
--- src/list.rt:137:17
 same-length : tie.Need-same-length
 same-length c = search needs
 
--- src/list.rt:137:17
 returns : tie.Need-returns
 returns c = let begun = c .before .before in
     let opening = begun .before .before .before .before in
@@ -48,23 +39,18 @@ returns c = let begun = c .before .before in
     (λ lines. sym (good-opening (opening .opening .given .0 .0) (opening .opening .given .0 .1 .0) lines (begun .before .before .if1 .taken)) ∙ ap (λ (o : Opening). walkedFrom o lines) (sym (opening .opening .given .1) ∙ read .read-opening .ensures))
     (begun .begin .ensures number packets (now (a .out)))
 
--- src/list.rt:139:13
 refuse-list-requires : tie.Need-refuse-list-requires
 refuse-list-requires c κs = search needs
 
--- src/list.rt:141:43
 enum-told : tie.Need-enum-told
 enum-told c = search needs
 
--- src/list.rt:141:25
 refuse-list-requires-2 : tie.Need-refuse-list-requires-2
 refuse-list-requires-2 c κs = search needs
 
--- src/list.rt:123:1
 same-length-2 : tie.Need-same-length-2
 same-length-2 c = search needs
 
--- src/list.rt:123:1
 returns-2 : tie.Need-returns-2
 returns-2 c = let refused = c .before .before in
     let opening = refused .before .before .before .before in
@@ -75,11 +61,9 @@ returns-2 c = let refused = c .before .before in
     (λ lines. sym (bad-opening (opening .opening .given .0 .0) (opening .opening .given .0 .1 .0) lines (refused .before .before .if1 .left)) ∙ ap (λ (o : Opening). walkedFrom o lines) (sym (opening .opening .given .1) ∙ read .read-opening .ensures))
     (refused .refuse-list .ensures number (now (a .shelves)) packets)
 
--- src/list.rt:123:1
 same-length-3 : tie.Need-same-length-3
 same-length-3 c = search needs
 
--- src/list.rt:123:1
 returns-3 : tie.Need-returns-3
 returns-3 c = let refused = c .before .before in
     let opening = refused .before .before in

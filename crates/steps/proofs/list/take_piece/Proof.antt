@@ -1,3 +1,4 @@
+-- `take_piece` meets its contract.
 use Prim.Native.Nat.{_-_}
 use mathlib.Core.Path.{_≡_, sym, _∙_}
 use denote.Ref.{now}
@@ -8,9 +9,6 @@ use Rattle.steps.proofs.Texts.{Going, nothing-yet, goes-further, all-ta
 use borrow.Author.Needs.{needs}
 use Rattle.steps.proofs.list.take_piece.Statement.{statement}
 use Rattle.steps.proofs.list.take_piece.Tie as tie
-use Rattle.steps.proofs.list.take_piece.Reads as reads
-use Rattle.steps.proofs.list.take_piece.Lts as lts
-use Rattle.steps.proofs.list.take_text.Reads as take-text-reads
 
 abbrev Inv-loop : tie.InvT-loop
 Inv-loop text shelves₀ packets₀ out₀ now₀ end₀ from₀ shelves packets out now end from =
@@ -19,13 +17,11 @@ Inv-loop text shelves₀ packets₀ out₀ now₀ end₀ from₀ shelves packets
 abbrev μ-loop : tie.MeasureT-loop
 μ-loop text shelves₀ packets₀ out₀ now₀ end₀ from₀ shelves packets out now end from = length text - from
 
--- src/list.rt:308:5
 loop-holds : tie.Need-loop-holds Inv-loop μ-loop
 loop-holds c = let start = c .before .before .before .before in
     let a = start .args in
     (nothing-yet (a .course) (now (a .text)) (now (a .shelves)) (now (a .packets)) (now (a .out)) (start .pre .0), start .pre .2, start .pre .3)
 
--- src/list.rt:309:13
 take-text-requires : tie.Need-take-text-requires Inv-loop μ-loop
 take-text-requires c κs = let turn = c .before .before .before .before in
     let start = c .before .before .before .before .before .before .before .before .before in
@@ -33,11 +29,9 @@ take-text-requires c κs = let turn = c .before .before .before .before in
     let less = c .before .before .before .loop-test .taken in
     (going .ready, omega (arith, going .counts, less, start .pre .1), less, turn .loop .inv .1, turn .loop .inv .2, omega (arith, going .high, going .same-room, less, start .pre .4))
 
--- src/list.rt:308:5
 loop-less : tie.Need-loop-less Inv-loop μ-loop
 loop-less c = let more = c .before .before .before .before .before .before .before .take-text .ensures in omega (arith, more .further, more .inside)
 
--- src/list.rt:308:5
 loop-again : tie.Need-loop-again Inv-loop μ-loop
 loop-again c = let done = c .before .before .before .before .before .before .before in
     let turn = c .before .before .before .before .before .before .before .before .before .before .before .before in
@@ -52,19 +46,15 @@ loop-again c = let done = c .before .before .before .before .before .before .bef
       packets-long ∙ turn .loop .inv .2,
     )
 
--- src/list.rt:295:1
 same-length : tie.Need-same-length Inv-loop μ-loop
 same-length c = let start = c .before .before .before .before .before .before in c .before .loop .inv .1 ∙ sym (start .pre .2)
 
--- src/list.rt:295:1
 same-length-2 : tie.Need-same-length-2 Inv-loop μ-loop
 same-length-2 c = let start = c .before .before .before .before .before .before in c .before .loop .inv .2 ∙ sym (start .pre .3)
 
--- src/list.rt:295:1
 same-length-3 : tie.Need-same-length-3 Inv-loop μ-loop
 same-length-3 c = c .before .loop .inv .0 .same-room
 
--- src/list.rt:295:1
 returns : tie.Need-returns Inv-loop μ-loop
 returns c = let start = c .before .before .before .before .before .before in
     let a = start .args in

@@ -1,49 +1,35 @@
+-- `take_step` meets its contract.
 use denote.Ref.{now}
 use Rattle.steps.specs.Memory.{sessionIn}
 use Rattle.steps.proofs.Printing.{step-taken}
 use borrow.Author.Needs.{needs}
 use Rattle.steps.proofs.list.take_step.Statement.{statement}
 use Rattle.steps.proofs.list.take_step.Tie as tie
-use Rattle.steps.proofs.list.take_step.Reads as reads
-use Rattle.steps.proofs.list.take_step.Lts as lts
-use Rattle.lines.proofs.read_step.Reads as read-step-reads
-use Rattle.steps.proofs.list.no_line.Reads as no-line-reads
-use Rattle.steps.proofs.list.put_report.Reads as put-report-reads
-use Rattle.steps.proofs.walk.walk_step.Reads as walk-step-reads
 
--- src/list.rt:170:34
 read-step-requires : tie.Need-read-step-requires
 read-step-requires c κs = search needs
 
--- src/list.rt:170:9
 walk-step-requires : tie.Need-walk-step-requires
 walk-step-requires c κs = search needs
 
--- src/list.rt:173:9
 put-report-requires : tie.Need-put-report-requires
 put-report-requires c κs = search needs
 
--- src/list.rt:177:21
 add-t20 : tie.Need-add-t20
 add-t20 c = search needs
 
--- src/list.rt:178:19
 no-line-requires : tie.Need-no-line-requires
 no-line-requires c κs = search needs
 
--- src/list.rt:158:1
 same-length : tie.Need-same-length
 same-length c = search needs
 
--- src/list.rt:158:1
 same-length-2 : tie.Need-same-length-2
 same-length-2 c = search needs
 
--- src/list.rt:158:1
 same-length-3 : tie.Need-same-length-3
 same-length-3 c = search needs
 
--- src/list.rt:158:1
 returns : tie.Need-returns
 returns c = let wrote = c .before .before .before in
     let walked = c .before .before .before .before .before .before .before .before .before .before .before in

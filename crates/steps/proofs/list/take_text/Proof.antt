@@ -1,3 +1,4 @@
+-- `take_text` meets its contract.
 use Prim.Native.Nat.{ℕ, _+_, _<_}
 use denote.Ref.{now}
 use native.Mathlib.Omega.{arith}
@@ -8,36 +9,25 @@ use Rattle.steps.proofs.Texts.{kept-ready, piece-ends, line-ends}
 use borrow.Author.Needs.{needs}
 use Rattle.steps.proofs.list.take_text.Statement.{statement}
 use Rattle.steps.proofs.list.take_text.Tie as tie
-use Rattle.steps.proofs.list.take_text.Reads as reads
-use Rattle.steps.proofs.list.take_text.Lts as lts
-use Rattle.steps.proofs.list.keep.Reads as keep-reads
-use Rattle.steps.proofs.list.line_end.Reads as line-end-reads
-use Rattle.steps.proofs.list.take_line.Reads as take-line-reads
 
 fits-below : (c : tie.Start) (k : ℕ) → k < length (now (c .args .text)) → Fits w64 (k + 1)
 fits-below c k h = search needs
 
--- src/list.rt:267:9
 line-end-requires : tie.Need-line-end-requires
 line-end-requires c κs = search needs
 
--- src/list.rt:268:34
 sub-keep : tie.Need-sub-keep
 sub-keep c = search needs
 
--- src/list.rt:268:34
 part-keep-start : tie.Need-part-keep-start
 part-keep-start c = search needs
 
--- src/list.rt:268:34
 part-keep-end : tie.Need-part-keep-end
 part-keep-end c = search needs
 
--- src/list.rt:268:9
 keep-requires : tie.Need-keep-requires
 keep-requires c κs = search needs
 
--- src/list.rt:279:9
 returns : tie.Need-returns
 returns c = let kept = c .before .before in
     let found = c .before .before .before .before in
@@ -46,7 +36,6 @@ returns c = let kept = c .before .before in
     piece-ends (a .course) (now (a .text)) (a .from) (found .line-end .result) (kept .keep .result) (start .pre .0) (found .line-end .ensures) (kept .keep .ensures)
     (now (a .shelves)) (now (a .packets)) (now (a .out)) (a .at) (start .pre .2) (c .if1 .taken)
 
--- src/list.rt:285:9
 take-line-requires : tie.Need-take-line-requires
 take-line-requires c κs = let kept = c .before .before .before .before .before in
     let found = c .before .before .before .before .before .before .before in
@@ -54,26 +43,21 @@ take-line-requires c κs = let kept = c .before .before .before .before .before 
     let a = start .args in
     (kept-ready (a .course) (now (a .text)) (a .from) (found .line-end .result) (kept .keep .result) (start .pre .0) (found .line-end .ensures) (kept .keep .ensures), start .pre .1, start .pre .3, start .pre .4, start .pre .5)
 
--- src/list.rt:290:15
 add-next : tie.Need-add-next
 add-next c = let found = c .before .before .before .before .before .before .before .before .before .before .before .before .before .before .before in
     let other = c .before .before .before .before .before .before .before .before .before .before .before .if1 .left in
     let start = c .before .before .before .before .before .before .before .before .before .before .before .before .before .before .before .before .before .before .before .before in
     fits-below start (found .line-end .result) (omega (arith, found .line-end .ensures .high))
 
--- src/list.rt:255:1
 same-length : tie.Need-same-length
 same-length c = search needs
 
--- src/list.rt:255:1
 same-length-2 : tie.Need-same-length-2
 same-length-2 c = search needs
 
--- src/list.rt:255:1
 same-length-3 : tie.Need-same-length-3
 same-length-3 c = search needs
 
--- src/list.rt:255:1
 returns-2 : tie.Need-returns-2
 returns-2 c = let done = c .before .before .before .before .before .before .before in
     let kept = c .before .before .before .before .before .before .before .before .before .before .before .before .before in

@@ -1,3 +1,4 @@
+-- `open_all` meets its contract.
 use Prim.Native.Nat.{ℕ, _-_, _≤_}
 use mathlib.Core.Path.{_≡_, refl, subst, sym, _∙_}
 use denote.Ref.{now}
@@ -8,10 +9,6 @@ use Rattle.steps.proofs.Opened.{none-opened, opened-inside, one-more-op
 use borrow.Author.Needs.{needs}
 use Rattle.steps.proofs.opening.open_all.Statement.{statement}
 use Rattle.steps.proofs.opening.open_all.Tie as tie
-use Rattle.steps.proofs.opening.open_all.Reads as reads
-use Rattle.steps.proofs.opening.open_all.Lts as lts
-use Rattle.steps.proofs.opening.nobody.Reads as nobody-reads
-use Rattle.steps.proofs.opening.open_at.Reads as open-at-reads
 
 abbrev Inv-loop : tie.InvT-loop
 Inv-loop n slots shelves₀ seats₀ at₀ at-end shelves seats at =
@@ -20,38 +17,30 @@ Inv-loop n slots shelves₀ seats₀ at₀ at-end shelves seats at =
 abbrev μ-loop : tie.MeasureT-loop
 μ-loop n slots shelves₀ seats₀ at₀ at-end shelves seats at = n - at
 
--- src/opening.rt:44:22
 nobody-requires : tie.Need-nobody-requires Inv-loop μ-loop
 nobody-requires c κs = search needs
 
--- src/opening.rt:45:5
 loop-holds : tie.Need-loop-holds Inv-loop μ-loop
 loop-holds c = let start = c .before .before in
     (omega arith, start .pre .2, none-opened (start .args .n) (start .args .slots) _ (now (start .args .shelves)) refl)
 
--- src/opening.rt:46:21
 open-at-requires : tie.Need-open-at-requires Inv-loop μ-loop
 open-at-requires c κs = let start = c .before .before .before .before .before in
     let turn = c .before .before in
     (c .before .loop-test .taken, start .pre .0, start .pre .1, opened-inside (start .args .n) (start .args .slots) (start .pre .0) (start .pre .1) (turn .loop .shelves) (turn .loop .at) (turn .loop .inv .1) (c .before .loop-test .taken))
 
--- src/opening.rt:46:9
 mul-seats : tie.Need-mul-seats Inv-loop μ-loop
 mul-seats c = search needs
 
--- src/opening.rt:46:9
 array-set-from-seats : tie.Need-array-set-from-seats Inv-loop μ-loop
 array-set-from-seats c = let start = c .before .before .before .before .before .before .before .before in omega (arith, start .pre .0, c .before .before .before .before .loop-test .taken)
 
--- src/opening.rt:45:9
 add-at : tie.Need-add-at Inv-loop μ-loop
 add-at c = search needs
 
--- src/opening.rt:45:5
 loop-less : tie.Need-loop-less Inv-loop μ-loop
 loop-less c = search needs
 
--- src/opening.rt:45:5
 loop-again : tie.Need-loop-again Inv-loop μ-loop
 loop-again c = let done = c .before .before in
     let turn = done .before .before .before in
@@ -63,11 +52,9 @@ loop-again c = let done = c .before .before in
       one-more-opened (start .args .n) (start .args .slots) (start .pre .0) (start .pre .1) (turn .loop .at) (turn .loop .seats) (turn .loop .shelves) (done .open-at .result) _ less (turn .loop .inv .1) (turn .loop .inv .2) (done .open-at .ensures),
     )
 
--- src/opening.rt:40:1
 same-length : tie.Need-same-length Inv-loop μ-loop
 same-length c = let start = c .before .before .before .before in c .before .loop .inv .1 ∙ sym (start .pre .2)
 
--- src/opening.rt:40:1
 returns : tie.Need-returns Inv-loop μ-loop
 returns c = let start = c .before .before .before .before in
     let turn = c .before in

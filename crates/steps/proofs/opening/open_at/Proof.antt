@@ -1,53 +1,40 @@
+-- `open_at` meets its contract.
 use denote.Ref.{now}
 use Rattle.steps.proofs.Opened.{opened-at}
 use borrow.Author.Needs.{needs}
 use Rattle.steps.proofs.opening.open_at.Statement.{statement}
 use Rattle.steps.proofs.opening.open_at.Tie as tie
-use Rattle.steps.proofs.opening.open_at.Reads as reads
-use Rattle.steps.proofs.opening.open_at.Lts as lts
-use Rattle.seat.proofs.Seat.open.Reads as open-reads
 
--- src/opening.rt:31:16
 mul-size : tie.Need-mul-size
 mul-size c = search needs
 
--- src/opening.rt:32:17
 mul-start : tie.Need-mul-start
 mul-start c = search needs
 
--- src/opening.rt:33:15
 add-end : tie.Need-add-end
 add-end c = search needs
 
--- src/opening.rt:34:18
 cast-number : tie.Need-cast-number
 cast-number c = search needs
 
--- src/opening.rt:34:18
 add-number : tie.Need-add-number
 add-number c = search needs
 
--- src/opening.rt:35:48
 sub-open : tie.Need-sub-open
 sub-open c = search needs
 
--- src/opening.rt:35:48
 part-open-start : tie.Need-part-open-start
 part-open-start c = search needs
 
--- src/opening.rt:35:48
 part-open-end : tie.Need-part-open-end
 part-open-end c = search needs
 
--- src/opening.rt:35:9
 open-requires : tie.Need-open-requires
 open-requires c κs = search needs
 
--- src/opening.rt:27:1
 same-length : tie.Need-same-length
 same-length c = search needs
 
--- src/opening.rt:27:1
 returns : tie.Need-returns
 returns c = let done = c .before .before .before in
     let start = done .before .before .before in

@@ -1,3 +1,4 @@
+-- `arrive` meets its contract.
 use Prim.Native.Nat.{ℕ, _-_, _≤_, _<_}
 use mathlib.Core.Bool.{true}
 use mathlib.Core.Path.{_≡_, subst, sym, ap, _∙_}
@@ -11,13 +12,6 @@ use Rattle.steps.proofs.Walking.{seated-is, unknown-walks, nobody-there
 use borrow.Author.Needs.{needs}
 use Rattle.steps.proofs.walk.arrive.Statement.{statement}
 use Rattle.steps.proofs.walk.arrive.Tie as tie
-use Rattle.steps.proofs.walk.arrive.Reads as reads
-use Rattle.steps.proofs.walk.arrive.Lts as lts
-use Rattle.steps.proofs.walk.arrive_at.Reads as arrive-at-reads
-use Rattle.steps.proofs.walk.find.Reads as find-reads
-use Rattle.steps.proofs.walk.is_seated.Reads as is-seated-reads
-use Rattle.steps.proofs.walk.packet_at.Reads as packet-at-reads
-use Rattle.steps.proofs.walk.unknown.Reads as unknown-reads
 
 seated : (c : tie.Else2) → let a = c .before .before .before .before .before .before .before .args in isSeated (a .walk) (a .seat) ≡ true
 seated c = let test = c .before .before .before in sym (test .before .is-seated .ensures) ∙ not-false _ (test .if1 .left)
@@ -30,15 +24,12 @@ there c = let a = c .before .before .before .before .before .before .before .arg
     let other : foundIn (a .walk) (a .sender) (a .number) ≡ a .walk .letters → ⊥ = λ e. c .if2 .left (c .before .before .find .ensures ∙ e) in
     omega (arith, found-most (a .walk) (a .sender) (a .number))
 
--- src/walk.rt:214:9
 is-seated-requires : tie.Need-is-seated-requires
 is-seated-requires c κs = search needs
 
--- src/walk.rt:215:9
 unknown-requires : tie.Need-unknown-requires
 unknown-requires c κs = search needs
 
--- src/walk.rt:215:9
 returns : tie.Need-returns
 returns c = let not-there = c .before in
     let start = not-there .before .before .before .before in
@@ -46,15 +37,12 @@ returns c = let not-there = c .before in
     unknown-walks (a .walk) (now (a .shelves)) (now (a .packets)) _ (c .unknown .result) (start .pre .0)
     (nobody-there (a .walk) (now (a .shelves)) (now (a .packets)) (a .seat) (a .sender) (a .number) (sym (not-there .before .is-seated .ensures) ∙ not-true _ (not-there .if1 .taken))) (c .unknown .ensures)
 
--- src/walk.rt:217:9
 find-requires : tie.Need-find-requires
 find-requires c κs = search needs
 
--- src/walk.rt:219:9
 unknown-requires-2 : tie.Need-unknown-requires-2
 unknown-requires-2 c κs = search needs
 
--- src/walk.rt:219:9
 returns-2 : tie.Need-returns-2
 returns-2 c = let none = c .before in
     let found = none .before .before in
@@ -63,32 +51,26 @@ returns-2 c = let none = c .before in
     unknown-walks (a .walk) (now (a .shelves)) (now (a .packets)) _ (c .unknown2 .result) (start .pre .0)
     (nothing-there (a .walk) (now (a .shelves)) (now (a .packets)) (a .seat) (a .sender) (a .number) (sym (found .find .ensures) ∙ none .if2 .taken)) (c .unknown2 .ensures)
 
--- src/walk.rt:221:15
 sub-at : tie.Need-sub-at
 sub-at c = inside c .0
 
--- src/walk.rt:221:14
 cast-at : tie.Need-cast-at
 cast-at c = search needs
 
--- src/walk.rt:222:25
 packet-at-requires : tie.Need-packet-at-requires
 packet-at-requires c κs = let start = c .before .before .before .before .before .before .before in
     let bounded = start .pre .0 in
     (bounded .seats-most, omega (arith, there c, c .before .before .find .ensures, bounded .letters-most, bounded .sends-most), start .pre .1)
 
--- src/walk.rt:222:5
 arrive-at-requires : tie.Need-arrive-at-requires
 arrive-at-requires c κs = let start = c .before .before .before .before .before .before .before .before .before in
     let at = inside (c .before .before) in
     let bounded = start .pre .0 in
     (omega (arith, bounded .seats-most), bounded .slots-most, shelf-inside (start .args .walk) bounded (now (start .args .shelves)) (start .args .seat - 1) (start .pre .2) (omega arith))
 
--- src/walk.rt:203:1
 same-length : tie.Need-same-length
 same-length c = search needs
 
--- src/walk.rt:203:1
 returns-3 : tie.Need-returns-3
 returns-3 c = let done = c .before .before in
     let packet = done .before .before in

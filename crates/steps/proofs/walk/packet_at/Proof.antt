@@ -1,3 +1,4 @@
+-- `packet_at` meets its contract.
 use Prim.Native.Nat.{ℕ, _+_, _*_}
 use mathlib.Core.Path.{sym, ap, _∙_}
 use native.Mathlib.Nat.{add-zero}
@@ -9,42 +10,31 @@ use Rattle.steps.proofs.Parts.{part-start}
 use borrow.Author.Needs.{needs}
 use Rattle.steps.proofs.walk.packet_at.Statement.{statement}
 use Rattle.steps.proofs.walk.packet_at.Tie as tie
-use Rattle.steps.proofs.walk.packet_at.Reads as reads
-use Rattle.steps.proofs.walk.packet_at.Lts as lts
 
--- src/walk.rt:196:17
 cast-seats : tie.Need-cast-seats
 cast-seats c = search needs
 
--- src/walk.rt:197:17
 mul-start : tie.Need-mul-start
 mul-start c = search needs
 
--- src/walk.rt:198:35
 mul-end : tie.Need-mul-end
 mul-end c = search needs
 
--- src/walk.rt:198:24
 add-end : tie.Need-add-end
 add-end c = search needs
 
--- src/walk.rt:198:15
 add-end-2 : tie.Need-add-end-2
 add-end-2 c = search needs
 
--- src/walk.rt:199:5
 sub-result : tie.Need-sub-result
 sub-result c = search needs
 
--- src/walk.rt:199:5
 part-result-start : tie.Need-part-result-start
 part-result-start c = search needs
 
--- src/walk.rt:199:5
 part-result-end : tie.Need-part-result-end
 part-result-end c = search needs
 
--- src/walk.rt:192:1
 returns : tie.Need-returns
 returns c = let start = c .before .before in
     part-start 67 _ (now (start .args .packets)) (3 + 4 * start .args .walk .n) (omega arith) ∙ ap (λ (k : ℕ). take k (piece 67 (now (start .args .packets)) (start .args .i))) (sym (add-zero (3 + 4 * start .args .walk .n)))

@@ -1,3 +1,4 @@
+-- `release` meets its contract.
 use Prim.Native.Nat.{_-_, _≤_}
 use mathlib.Core.Bool.{true}
 use mathlib.Core.Path.{_≡_, sym, _∙_}
@@ -10,11 +11,6 @@ use Rattle.steps.proofs.Walking.{seated-is, unknown-walks, nobody-relea
 use borrow.Author.Needs.{needs}
 use Rattle.steps.proofs.walk.release.Statement.{statement}
 use Rattle.steps.proofs.walk.release.Tie as tie
-use Rattle.steps.proofs.walk.release.Reads as reads
-use Rattle.steps.proofs.walk.release.Lts as lts
-use Rattle.steps.proofs.walk.is_seated.Reads as is-seated-reads
-use Rattle.steps.proofs.walk.release_at.Reads as release-at-reads
-use Rattle.steps.proofs.walk.unknown.Reads as unknown-reads
 
 seated : (c : tie.Else1) → isSeated (c .before .before .before .args .walk) (c .before .before .before .args .seat) ≡ true
 seated c = sym (c .before .is-seated .ensures) ∙ not-false _ (c .if1 .left)
@@ -22,15 +18,12 @@ seated c = sym (c .before .is-seated .ensures) ∙ not-false _ (c .if1 .left)
 inside : (c : tie.Else1) → (1 ≤ c .before .before .before .args .seat) × (c .before .before .before .args .seat ≤ c .before .before .before .args .walk .n)
 inside c = let start = c .before .before .before in seated-is (start .args .walk) (start .args .seat) (seated c)
 
--- src/walk.rt:230:9
 is-seated-requires : tie.Need-is-seated-requires
 is-seated-requires c κs = search needs
 
--- src/walk.rt:231:9
 unknown-requires : tie.Need-unknown-requires
 unknown-requires c κs = search needs
 
--- src/walk.rt:231:9
 returns : tie.Need-returns
 returns c = let not-there = c .before in
     let start = not-there .before .before .before in
@@ -38,26 +31,21 @@ returns c = let not-there = c .before in
     unknown-walks (start .args .walk) (now (start .args .shelves)) packets _ (c .unknown .result) (start .pre .0)
     (nobody-releases (start .args .walk) (now (start .args .shelves)) packets (start .args .seat) (sym (not-there .before .is-seated .ensures) ∙ not-true _ (not-there .if1 .taken))) (c .unknown .ensures)
 
--- src/walk.rt:233:15
 sub-at : tie.Need-sub-at
 sub-at c = inside c .0
 
--- src/walk.rt:233:14
 cast-at : tie.Need-cast-at
 cast-at c = search needs
 
--- src/walk.rt:234:5
 release-at-requires : tie.Need-release-at-requires
 release-at-requires c κs = let start = c .before .before .before .before in
     let there = inside (c .before) in
     let bounded = start .pre .0 in
     (omega (arith, bounded .seats-most), bounded .slots-most, shelf-inside (start .args .walk) bounded (now (start .args .shelves)) (start .args .seat - 1) (start .pre .1) (omega arith))
 
--- src/walk.rt:226:1
 same-length : tie.Need-same-length
 same-length c = search needs
 
--- src/walk.rt:226:1
 returns-2 : tie.Need-returns-2
 returns-2 c = let done = c .before .before in
     let there = done .before .before in

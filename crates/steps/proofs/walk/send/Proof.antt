@@ -1,3 +1,4 @@
+-- `send` meets its contract.
 use Prim.Native.Nat.{_-_, _≤_}
 use mathlib.Core.Bool.{true}
 use mathlib.Core.Path.{_≡_, subst, sym, ap, _∙_}
@@ -12,12 +13,6 @@ use Rattle.steps.proofs.Sends.{too-many-sends, nobody-sends, counted-bo
 use borrow.Author.Needs.{needs}
 use Rattle.steps.proofs.walk.send.Statement.{statement}
 use Rattle.steps.proofs.walk.send.Tie as tie
-use Rattle.steps.proofs.walk.send.Reads as reads
-use Rattle.steps.proofs.walk.send.Lts as lts
-use Rattle.steps.proofs.walk.counted.Reads as counted-reads
-use Rattle.steps.proofs.walk.is_seated.Reads as is-seated-reads
-use Rattle.steps.proofs.walk.send_at.Reads as send-at-reads
-use Rattle.steps.proofs.walk.unknown.Reads as unknown-reads
 
 seated : (c : tie.Else2) → let a = c .before .before .before .before .before .before .args in isSeated (a .walk) (a .seat) ≡ true
 seated c = sym (c .before .is-seated .ensures) ∙ not-false _ (c .if2 .left)
@@ -25,11 +20,9 @@ seated c = sym (c .before .is-seated .ensures) ∙ not-false _ (c .if2 .left)
 inside : (c : tie.Else2) → let a = c .before .before .before .before .before .before .args in (1 ≤ a .seat) × (a .seat ≤ a .walk .n)
 inside c = let a = c .before .before .before .before .before .before .args in seated-is (a .walk) (a .seat) (seated c)
 
--- src/walk.rt:167:9
 unknown-requires : tie.Need-unknown-requires
 unknown-requires c κs = search needs
 
--- src/walk.rt:167:9
 returns : tie.Need-returns
 returns c = let start = c .before .before .before .before in
     let a = start .args in
@@ -37,19 +30,15 @@ returns c = let start = c .before .before .before .before in
     unknown-walks (a .walk) shelves (now (a .packets)) _ (c .unknown .result) (start .pre .0)
     (too-many-sends (a .walk) shelves (now (a .packets)) (a .seat) (a .wish) (c .before .if1 .taken)) (c .unknown .ensures)
 
--- src/walk.rt:169:9
 counted-requires : tie.Need-counted-requires
 counted-requires c κs = search needs
 
--- src/walk.rt:170:9
 is-seated-requires : tie.Need-is-seated-requires
 is-seated-requires c κs = search needs
 
--- src/walk.rt:171:9
 unknown-requires-2 : tie.Need-unknown-requires-2
 unknown-requires-2 c κs = search needs
 
--- src/walk.rt:171:9
 returns-2 : tie.Need-returns-2
 returns-2 c = let not-there = c .before in
     let counted = not-there .before .before in
@@ -60,15 +49,12 @@ returns-2 c = let not-there = c .before in
     (nobody-sends (a .walk) shelves (now (a .packets)) (a .seat) (a .wish) (counted .before .if1 .left) (sym (not-there .before .is-seated .ensures) ∙ not-true _ (not-there .if2 .taken)))
     (c .unknown2 .ensures ∙ ap (λ (w : Walk). record { walk = w; report = bare 21 }) (counted .counted .ensures))
 
--- src/walk.rt:173:15
 sub-at : tie.Need-sub-at
 sub-at c = inside c .0
 
--- src/walk.rt:173:14
 cast-at : tie.Need-cast-at
 cast-at c = search needs
 
--- src/walk.rt:174:5
 send-at-requires : tie.Need-send-at-requires
 send-at-requires c κs = let start = c .before .before .before .before .before .before .before in
     let counted = c .before .before .before in
@@ -76,11 +62,9 @@ send-at-requires c κs = let start = c .before .before .before .before .before .
     let bounded = start .pre .0 in
     (omega (arith, bounded .seats-most), omega (arith, ap (λ (w : Walk). w .letters) (counted .counted .ensures), bounded .letters-most, counted .before .if1 .left), start .pre .1)
 
--- src/walk.rt:162:1
 same-length : tie.Need-same-length
 same-length c = search needs
 
--- src/walk.rt:162:1
 returns-3 : tie.Need-returns-3
 returns-3 c = let done = c .before .before in
     let goes = done .before .before in

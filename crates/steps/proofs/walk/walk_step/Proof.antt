@@ -1,3 +1,4 @@
+-- `walk_step` meets its contract.
 use mathlib.Core.Path.{refl, subst, sym}
 use denote.Ref.{now}
 use Rattle.seat.specs.declared.Wish.{Wish}
@@ -8,55 +9,37 @@ use Rattle.steps.proofs.Walking.{unknown-walks}
 use borrow.Author.Needs.{needs}
 use Rattle.steps.proofs.walk.walk_step.Statement.{statement}
 use Rattle.steps.proofs.walk.walk_step.Tie as tie
-use Rattle.steps.proofs.walk.walk_step.Reads as reads
-use Rattle.steps.proofs.walk.walk_step.Lts as lts
-use Rattle.steps.proofs.walk.arrive.Reads as arrive-reads
-use Rattle.steps.proofs.walk.release.Reads as release-reads
-use Rattle.steps.proofs.walk.send.Reads as send-reads
-use Rattle.steps.proofs.walk.unknown.Reads as unknown-reads
-use Rattle.steps.proofs.walk.wish_of.Reads as wish-of-reads
 
--- src/walk.rt:263:20
 enum-known-step : tie.Need-enum-known-step
 enum-known-step c = search needs
 
--- src/walk.rt:263:54
 wish-of-requires : tie.Need-wish-of-requires
 wish-of-requires c κs = search needs
 
--- src/walk.rt:263:37
 send-requires : tie.Need-send-requires
 send-requires c κs = search needs
 
--- src/walk.rt:264:22
 enum-known-step-2 : tie.Need-enum-known-step-2
 enum-known-step-2 c = search needs
 
--- src/walk.rt:265:13
 arrive-requires : tie.Need-arrive-requires
 arrive-requires c κs = search needs
 
--- src/walk.rt:267:23
 enum-known-step-3 : tie.Need-enum-known-step-3
 enum-known-step-3 c = search needs
 
--- src/walk.rt:267:32
 release-requires : tie.Need-release-requires
 release-requires c κs = search needs
 
--- src/walk.rt:268:29
 enum-told : tie.Need-enum-told
 enum-told c = search needs
 
--- src/walk.rt:268:29
 unknown-requires : tie.Need-unknown-requires
 unknown-requires c κs = search needs
 
--- src/walk.rt:258:1
 same-length : tie.Need-same-length
 same-length c = search needs
 
--- src/walk.rt:258:1
 returns : tie.Need-returns
 unfolding stepTold
 returns c = let done = c .before .before in
@@ -65,15 +48,12 @@ returns c = let done = c .before .before in
     subst (λ (step : Step). Walks (stepTold (sessionIn (a .walk) (now (a .shelves)) (now (a .packets))) step) (done .send .result) (now (a .shelves)) (done .send .last .1 .1 .1 .0))
     (sym (met .step .given .1)) (subst (λ (wish : Wish). Walks (sendTold (sessionIn (a .walk) (now (a .shelves)) (now (a .packets))) (met .step .given .0 .0) wish) (done .send .result) (now (a .shelves)) (done .send .last .1 .1 .1 .0)) (done .before .before .wish-of .ensures) (done .send .ensures (now (a .shelves))))
 
--- src/walk.rt:258:1
 same-length-2 : tie.Need-same-length-2
 same-length-2 c = search needs
 
--- src/walk.rt:258:1
 same-length-3 : tie.Need-same-length-3
 same-length-3 c = search needs
 
--- src/walk.rt:258:1
 returns-2 : tie.Need-returns-2
 unfolding stepTold
 returns-2 c = let done = c .before .before in
@@ -82,11 +62,9 @@ returns-2 c = let done = c .before .before in
     subst (λ (step : Step). Walks (stepTold (sessionIn (a .walk) (now (a .shelves)) (now (a .packets))) step) (done .arrive .result) (done .arrive .last .1 .1 .1 .1 .1 .0) (now (a .packets)))
     (sym (met .step2 .given .1)) (done .arrive .ensures)
 
--- src/walk.rt:258:1
 same-length-4 : tie.Need-same-length-4
 same-length-4 c = search needs
 
--- src/walk.rt:258:1
 returns-3 : tie.Need-returns-3
 unfolding stepTold
 returns-3 c = let done = c .before .before in
@@ -95,7 +73,6 @@ returns-3 c = let done = c .before .before in
     subst (λ (step : Step). Walks (stepTold (sessionIn (a .walk) (now (a .shelves)) (now (a .packets))) step) (done .release .result) (done .release .last .1 .1 .0) (now (a .packets)))
     (sym (met .step3 .given .1)) (done .release .ensures (now (a .packets)))
 
--- src/walk.rt:258:1
 returns-4 : tie.Need-returns-4
 unfolding stepTold
 returns-4 c = let met = c .before in

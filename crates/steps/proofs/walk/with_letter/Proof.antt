@@ -1,64 +1,49 @@
+-- `with_letter` meets its contract.
 use mathlib.Core.Path.{sym, ap}
 use Rattle.steps.specs.Memory.{withLetter}
 use borrow.Author.Needs.{needs}
 use Rattle.steps.proofs.walk.with_letter.Statement.{statement}
 use Rattle.steps.proofs.walk.with_letter.Tie as tie
-use Rattle.steps.proofs.walk.with_letter.Reads as reads
-use Rattle.steps.proofs.walk.with_letter.Lts as lts
 
--- src/walk.rt:52:22
 enum-known-answer : tie.Need-enum-known-answer
 enum-known-answer c = search needs
 
--- src/walk.rt:57:13
 element-write-after : tie.Need-element-write-after
 element-write-after c = search needs
 
--- src/walk.rt:58:13
 mul-after : tie.Need-mul-after
 mul-after c = search needs
 
--- src/walk.rt:58:13
 element-write-after-2 : tie.Need-element-write-after-2
 element-write-after-2 c = search needs
 
--- src/walk.rt:59:29
 add-after : tie.Need-add-after
 add-after c = search needs
 
--- src/walk.rt:62:27
 enum-told : tie.Need-enum-told
 enum-told c = search needs
 
--- src/walk.rt:63:28
 enum-told-2 : tie.Need-enum-told-2
 enum-told-2 c = search needs
 
--- src/walk.rt:64:33
 enum-told-3 : tie.Need-enum-told-3
 enum-told-3 c = search needs
 
--- src/walk.rt:65:31
 enum-told-4 : tie.Need-enum-told-4
 enum-told-4 c = search needs
 
--- src/walk.rt:47:1
 returns : tie.Need-returns
 returns c = let edit = c .before .before .before in ap (withLetter (edit .before .before .args .walk)) (sym (edit .answer .given .1))
 
--- src/walk.rt:47:1
 returns-2 : tie.Need-returns-2
 returns-2 c = search needs
 
--- src/walk.rt:47:1
 returns-3 : tie.Need-returns-3
 returns-3 c = search needs
 
--- src/walk.rt:47:1
 returns-4 : tie.Need-returns-4
 returns-4 c = search needs
 
--- src/walk.rt:47:1
 returns-5 : tie.Need-returns-5
 returns-5 c = search needs
 
