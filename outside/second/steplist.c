@@ -4,7 +4,8 @@
  *   printf '2 1\ns 1 c\na 2 1 1\n' | ./steplist
  *
  * A line is kept only as far as a readable one can reach, so memory does not
- * grow with the input.
+ * grow with the input.  Every send line that can be read counts towards the
+ * 256, also one whose seat is not there.
  */
 #include "second.h"
 
@@ -31,8 +32,8 @@ static struct session {
     unsigned n;
     size_t shelf_length, packet_length;
     struct seat seat[SEATS];
-    unsigned sends;                    /* of all seats together */
-    uint8_t packet[SENDS][PACKET];     /* in the order of sending */
+    unsigned sends;                    /* lines that could be read, of all seats */
+    uint8_t packet[SENDS][PACKET];     /* by line, empty where no seat sent */
     unsigned sent[SEATS];              /* by each seat */
     uint8_t place[SEATS][SENDS];       /* edit number - 1 to its packet */
 } it;
@@ -97,12 +98,15 @@ static uint64_t send(struct line *l)
         else
             return UNREADABLE;
     }
-    if (!at_end(l) || !in_session(seat) || it.sends == SENDS)
+    if (!at_end(l) || it.sends == SENDS)
+        return UNREADABLE;
+    unsigned place = it.sends++;
+    if (!in_session(seat))
         return UNREADABLE;
     uint64_t got = second_send(it.seat[seat - 1].state, IMAGE, kind, NULL, 0,
-                               it.packet[it.sends], it.packet_length);
+                               it.packet[place], it.packet_length);
     if ((got & 0xff) == 0)
-        it.place[seat - 1][it.sent[seat - 1]++] = (uint8_t)it.sends++;
+        it.place[seat - 1][it.sent[seat - 1]++] = (uint8_t)place;
     return got;
 }
 
