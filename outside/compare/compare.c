@@ -9,6 +9,7 @@
  * and every byte of every buffer must agree, the guards around the buffers
  * must stand, and what an answer promises to leave alone must be left alone.
  *
+ *   chance.h   what is drawn
  *   twin.h     one case: both calls and the verdict
  *   loose.h    states, shelves and packets from nowhere, good and damaged
  *   honest.h   sessions, held also against a model that knows no vectors
@@ -28,7 +29,7 @@
 static void run_scenario(void)
 {
     uint64_t before = cases;
-    chance_state = seed * 0x2545f4914f6cdd1du + scenario * 0xd1342543de82ef95u;
+    start_chance(scenario);
     if (honest_cases * 100 < cases * 35) {
         if (percent(80))
             honest();

@@ -8,6 +8,8 @@
 #include "tautrobin.h"
 #include "second.h"
 
+#include "chance.h"
+
 #include <inttypes.h>
 #include <signal.h>
 #include <stdbool.h>
@@ -35,38 +37,6 @@ enum {
     GUARD = 32,
     ROOM = 67000 /* a body whose length needs more than 16 bits */
 };
-
-/* ---- Chance ---- */
-
-static uint64_t seed = 1, chance_state;
-
-static uint64_t draw(void)
-{
-    uint64_t z = chance_state += 0x9e3779b97f4a7c15u;
-    z = (z ^ z >> 30) * 0xbf58476d1ce4e5b9u;
-    z = (z ^ z >> 27) * 0x94d049bb133111ebu;
-    return z ^ z >> 31;
-}
-
-static unsigned below(unsigned n)
-{
-    return (unsigned)(draw() % n);
-}
-
-static unsigned between(unsigned low, unsigned high)
-{
-    return low + below(high - low + 1);
-}
-
-static bool percent(unsigned p)
-{
-    return below(100) < p;
-}
-
-static unsigned least(unsigned a, unsigned b)
-{
-    return a < b ? a : b;
-}
 
 static void fill_random(uint8_t *bytes, size_t length)
 {

@@ -10,7 +10,7 @@ lists=0 first_lines=0
 # Walks the list of standard input: what it prints must be the file.
 walk() {
     $steplist >"$built/printed" || { echo "$1: status $?"; exit 1; }
-    diff "$2" "$built/printed" >"$built/said" || { echo "$1: < stored, > printed"; cat "$built/said"; exit 1; }
+    diff "$2" "$built/printed" >"$built/said" || { echo "$1: < stored, > printed"; head -n 20 "$built/said"; exit 1; }
 }
 
 for list in outside/lists/*.list; do
