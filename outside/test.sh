@@ -16,6 +16,8 @@ rt ci 2>&1 | tee "$verdict"
 echo
 check rt staticlib tautrobin
 check outside/examples/test.sh
+check outside/lists/test.sh
 check outside/compare/run.sh
+check outside/compare/lists.sh
 check outside/compare/faults.sh
 tail -n 1 "$verdict"
