@@ -8,12 +8,12 @@
 static uint64_t seed = 1, chance_state;
 
 /* The draws of one scenario or list, whatever was drawn before. */
-static void start_chance(uint64_t number)
+static inline void start_chance(uint64_t number)
 {
     chance_state = seed * 0x2545f4914f6cdd1du + number * 0xd1342543de82ef95u;
 }
 
-static uint64_t draw(void)
+static inline uint64_t draw(void)
 {
     uint64_t z = chance_state += 0x9e3779b97f4a7c15u;
     z = (z ^ z >> 30) * 0xbf58476d1ce4e5b9u;
@@ -21,22 +21,22 @@ static uint64_t draw(void)
     return z ^ z >> 31;
 }
 
-static unsigned below(unsigned n)
+static inline unsigned below(unsigned n)
 {
     return (unsigned)(draw() % n);
 }
 
-static unsigned between(unsigned low, unsigned high)
+static inline unsigned between(unsigned low, unsigned high)
 {
     return low + below(high - low + 1);
 }
 
-static bool percent(unsigned p)
+static inline bool percent(unsigned p)
 {
     return below(100) < p;
 }
 
-static unsigned least(unsigned a, unsigned b)
+static inline unsigned least(unsigned a, unsigned b)
 {
     return a < b ? a : b;
 }
