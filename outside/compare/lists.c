@@ -291,7 +291,7 @@ static void make_list(uint64_t number, unsigned lines)
         if (percent(play.how.edge))
             go_to_edge();
     }
-    for (unsigned feeds = percent(70) + (percent(5) ? below(3) : 0); feeds != 0; feeds--)
+    for (unsigned feeds = percent(5) ? below(4) : percent(70); feeds != 0; feeds--)
         putchar('\n');
 }
 

@@ -55,8 +55,10 @@ static void plan_evening(void)
         for (unsigned k = 0; k < SEATS; k++)
             when[t][k] = t + below(LATEST + 1);
     for (unsigned t = 0; t < TICKS + LATEST; t++) {
+        bool causal = percent(25);
+        unsigned sender = below(SEATS);
         if (t < TICKS)
-            busy.step[busy.steps++] = (struct step){true, percent(25), below(SEATS), t};
+            busy.step[busy.steps++] = (struct step){true, causal, sender, t};
         plan_arrivals(t, when);
     }
 }
