@@ -177,10 +177,11 @@ fn take_step(
     let walk = walked.walk;
     let report = walked.report;
     let end = put_report(out, at, number, report);
+    let next = number + 1;
     Taken {
         course: Course {
             stage: Stage::Walking,
-            number: number + 1,
+            number: next,
             line: no_line(),
             walk,
         },

@@ -15,8 +15,8 @@ walk-step-requires c κs = search needs
 put-report-requires : tie.Need-put-report-requires
 put-report-requires c κs = search needs
 
-add-t20 : tie.Need-add-t20
-add-t20 c = search needs
+add-next : tie.Need-add-next
+add-next c = search needs
 
 no-line-requires : tie.Need-no-line-requires
 no-line-requires c κs = search needs
@@ -46,7 +46,7 @@ take-step-spec =
     read-step-requires
     walk-step-requires
     put-report-requires
-    add-t20
+    add-next
     no-line-requires
     same-length
     same-length-2
