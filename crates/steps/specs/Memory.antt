@@ -8,18 +8,17 @@ use lib.ListN.{length, getD, set, take, drop, replicate}
 use Rattle.answers.specs.Answers.{seatNo, report}
 use Rattle.answers.specs.declared.Answer.{Answer}
 use Rattle.answers.specs.declared.Answer.the-variants.{Opened, Done, Shelved, NothingReady, Refused}
-use Rattle.packet.specs.Packet.{packetLength, pastOf, barrierOf}
+use Rattle.packet.specs.Packet.{packetLength}
 use Rattle.packet.specs.Writing.{outputAfter}
 use Rattle.shelf.specs.Shelf.{slotSize, lowest}
 use Rattle.seat.specs.State.{counting}
 use Rattle.seat.specs.Sending.{kindOf, packetSent, sentSeat, sendAnswer, seatAfter, Sent}
-use Rattle.seat.specs.HandingOver.{handOver}
-use Rattle.seat.specs.Arriving.{headingOf, arriveAnswer, shelfAfter}
+use Rattle.seat.specs.Arriving.{arriveAnswer, shelfAfter}
 use Rattle.seat.specs.Releasing.{chosenPacket, releaseAnswer, shelfAfterRelease}
 use Rattle.seat.specs.declared.Seat.{Seat}
 use Rattle.seat.specs.declared.Stepped.{Stepped}
 use Rattle.seat.specs.declared.Wish.{Wish}
-use Rattle.steps.specs.Session.{Place, Letter, Session, Told, nobody, sendsMost, packetMost, listOf}
+use Rattle.steps.specs.Session.{Place, Letter, Session, Told, nobody, handedTo, sendsMost, packetMost, listOf}
 use Rattle.steps.specs.declared.walk.Walk.{Walk}
 use Rattle.steps.specs.declared.walk.Walked.{Walked}
 
@@ -165,9 +164,7 @@ SentAt walk i wish packets =
 
 -- A packet has arrived at the seat at i.
 pub record ArrivedAs (walk : Walk) (i : ℕ) (packet shelves : List ℕ) (answer : Answer) (walked : Walked) (shelves-left : List ℕ) : Type 0 where
-  pub walked-is : walked
-      ≡ walkedTo walk i
-      (seatAfter answer (handOver (seatIn walk i) (headingOf packet) (pastOf packet) (barrierOf packet)) (seatIn walk i)) answer
+  pub walked-is : walked ≡ walkedTo walk i (handedTo answer (seatIn walk i) packet) answer
   pub shelves-are : shelves-left ≡ withPiece (shelfSize walk) shelves i (shelfAfter answer packet (shelfIn walk shelves i))
 
 abbrev pub ArrivedAt : Walk → ℕ → List ℕ → List ℕ → Walked → List ℕ → Type 0
@@ -176,9 +173,7 @@ ArrivedAt walk i packet shelves =
 
 -- The seat at i has released a packet.
 pub record ReleasedAs (walk : Walk) (i : ℕ) (packet shelves : List ℕ) (answer : Answer) (walked : Walked) (shelves-left : List ℕ) : Type 0 where
-  pub walked-is : walked
-      ≡ walkedTo walk i
-      (seatAfter answer (handOver (seatIn walk i) (headingOf packet) (pastOf packet) (barrierOf packet)) (seatIn walk i)) answer
+  pub walked-is : walked ≡ walkedTo walk i (handedTo answer (seatIn walk i) packet) answer
   pub shelves-are : shelves-left
       ≡ withPiece (shelfSize walk) shelves i (shelfAfterRelease answer (seatIn walk i) (shelfIn walk shelves i))
 

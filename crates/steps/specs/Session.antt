@@ -118,6 +118,16 @@ sendTold session k wish =
 
 -- ---- an arrival
 
+-- The state after an answer to a packet: on 0 the packet is handed over.
+abbrev pub handedTo : Answer → Seat → List ℕ → Seat
+handedTo answer seat packet =
+    seatAfter answer (handOver seat (headingOf packet) (pastOf packet) (barrierOf packet)) seat
+
+-- A step at seat k was answered so, and left this state and this shelf.
+abbrev pub answered : Session → ℕ → Answer → Seat → List ℕ → Told
+answered session k answer seat shelf =
+    record { report = report answer; session = withPlace session k (record { seat = seat; shelf = shelf }) }
+
 abbrev pub noLetter : Letter
 noLetter = record { sender = 0; number = 0; bytes = [] }
 
@@ -131,14 +141,7 @@ found session sender number =
 
 unfoldable pub arrived : Session → ℕ → Place → List ℕ → Answer → Told
 arrived session k place packet answer =
-    record {
-      report = report answer;
-      session = withPlace session k
-          (record {
-            seat = seatAfter answer (handOver (place .seat) (headingOf packet) (pastOf packet) (barrierOf packet)) (place .seat);
-            shelf = shelfAfter answer packet (place .shelf);
-          });
-    }
+    answered session k answer (handedTo answer (place .seat) packet) (shelfAfter answer packet (place .shelf))
 
 abbrev pub arrivedPacket : Session → ℕ → List ℕ → Told
 arrivedPacket session k packet =
@@ -155,14 +158,7 @@ arriveTold session k sender number =
 
 unfoldable pub released : Session → ℕ → Place → List ℕ → Answer → Told
 released session k place packet answer =
-    record {
-      report = report answer;
-      session = withPlace session k
-          (record {
-            seat = seatAfter answer (handOver (place .seat) (headingOf packet) (pastOf packet) (barrierOf packet)) (place .seat);
-            shelf = shelfAfterRelease answer (place .seat) (place .shelf);
-          });
-    }
+    answered session k answer (handedTo answer (place .seat) packet) (shelfAfterRelease answer (place .seat) (place .shelf))
 
 -- `r SEAT`: bodies are empty, and so is the output.
 unfoldable pub releaseTold : Session → ℕ → Told
