@@ -3,12 +3,12 @@
 use Prim.Native.Nat.{ℕ, zero, suc, _+_, _*_, _-_, _/_, _%_, _^_, _≤_, _<_}
 use mathlib.Core.Path.{_≡_, refl, sym, ap, ap₂, _∙_}
 use mathlib.Core.List.{List, [], _∷_, _++_, append-assoc, append-nil}
-use native.Mathlib.Nat.{add-zero, sub-zero, add-suc, suc-add, zero-add, add-comm, mul-zero, mul-suc, mul-le-mul-left, pow-suc, pow-le-pow-right, mod-one, mod-eq-of-lt, le-antisymm, le-of-suc-le-suc, not-suc-le-zero}
+use native.Mathlib.Nat.{add-zero, add-suc, suc-add, zero-add, add-comm, mul-zero, mul-suc, mul-le-mul-left, pow-suc, mod-one, mod-eq-of-lt, le-antisymm, le-of-suc-le-suc, not-suc-le-zero}
 use native.Mathlib.Numerals.{add-one}
 use native.Mathlib.Omega.{arith}
 use lib.Arith.{mod-mul, digits-div, digits-mod}
-use lib.ListN.{length, getD, set, take, drop, length-set, length-append, List·getD-append}
-use lib.Seq.{set-comm, sets, length-sets, length-take-le, take-suc, take-add, take-at, drop-at, drop-drop, getD-take, getD-drop, getD-at, getD-append-add}
+use lib.ListN.{length, getD, set, take, drop, length-append, List·getD-append}
+use lib.Seq.{sets, length-sets, length-take-le, take-suc, take-add, take-at, drop-at, drop-drop, getD-take, getD-drop, getD-at, getD-append-add}
 use Rattle.vectors.specs.Vectors.{table}
 use Rattle.vectors.specs.Bytes.{numberAt, bytesOf, fieldsOf, Bytes}
 
@@ -35,7 +35,7 @@ pub two-bytes : (s : List ℕ) (i : ℕ) → getD s i 0 * 256 + getD s (i + 1) 0
 unfolding numberAt
 two-bytes s i = rw add-zero (omega arith)
 
--- ---- a number, read byte by byte
+-- ---- how large a number is
 
 pow-256 : (w : ℕ) → 0 < 256 ^ w
 pow-256 zero = omega arith
@@ -45,29 +45,6 @@ pub number-fits : (w : ℕ) (s : List ℕ) (i : ℕ) → Bytes s → numberAt w 
 unfolding numberAt Bytes
 number-fits zero s i small = omega arith
 number-fits (suc w) s i small = omega (arith, pow-suc 256 w, number-fits w s i small, small (i + w))
-
--- where bytes are left to read, there is room for one more
-pub number-has-room : (w k : ℕ) (s : List ℕ) (i : ℕ) → Bytes s → k < w → numberAt k s i * 256 + 256 ≤ 256 ^ w
-number-has-room w k s i small h =
-    let most : 256 ^ suc k ≤ 256 ^ w = pow-le-pow-right (omega arith) h in
-    omega (arith, pow-suc 256 k, number-fits k s i small)
-
--- the loop: after k turns the number that the first k bytes spell is read
-pub record Spelled (w : ℕ) (s : List ℕ) (i k x : ℕ) : Type 0 where
-  pub low : k ≤ w
-  pub is : x ≡ numberAt k s i
-
-module _ (w : ℕ) (s : List ℕ) (i : ℕ) where
-  pub spelled-none : Spelled w s i 0 0
-  unfolding numberAt
-  spelled-none = record { low = omega arith; is = refl }
-
-  pub spelled-more : (k x next : ℕ) → Spelled w s i k x → k < w → next ≡ x * 256 + getD s (i + k) 0 → Spelled w s i (k + 1) next
-  unfolding numberAt
-  spelled-more k x next so h e = record { low = omega arith; is = rw add-one (e ∙ ap (λ (y : ℕ). y * 256 + getD s (i + k) 0) (so .is)) }
-
-  pub spelled-all : (k x : ℕ) → Spelled w s i k x → w ≤ k → x ≡ numberAt w s i
-  spelled-all k x so h = so .is ∙ rw (le-antisymm (so .low) h)
 
 -- ---- stores, one piece after another
 
@@ -98,36 +75,7 @@ module _ (l : List ℕ) (i n : ℕ) (so-far : ℕ → List ℕ) where
   pub put-all : (k : ℕ) (now : List ℕ) → Put l i n so-far k now → n ≤ k → now ≡ sets l i (so-far n)
   put-all k now so h = so .is ∙ rw (le-antisymm (so .low) h)
 
--- ---- a number, stored from its last byte on
-
-sets-around : (vs l : List ℕ) (i j b : ℕ) → i + length vs ≤ j → sets (set l j b) i vs ≡ set (sets l i vs) j b
-sets-around [] l i j b h = refl
-sets-around (a ∷ vs) l i j b h = rw (set-comm l j i b a (λ e. omega arith)) (sets-around vs (set l i a) (suc i) j b (omega arith))
-
--- the loop: after k turns w - k bytes are left to store, those of `rest`
-pub record Storing (w : ℕ) (l : List ℕ) (i x k rest : ℕ) (now : List ℕ) : Type 0 where
-  pub low : k ≤ w
-  pub long : length now ≡ length l
-  pub left : sets now i (bytesOf (w - k) rest) ≡ sets l i (bytesOf w x)
-
-module _ (w : ℕ) (l : List ℕ) (i x : ℕ) where
-  pub storing-none : Storing w l i x 0 x l
-  storing-none = record { low = omega arith; long = refl; left = rw sub-zero }
-
-  pub storing-more : (k rest at : ℕ) (now next : List ℕ) → Storing w l i x k rest now → k < w → at ≡ w - (k + 1) → next ≡ set now (i + at) (rest % 256)
-      → Storing w l i x (k + 1) (rest / 256) next
-  unfolding bytesOf
-  storing-more k rest at now next so h here e =
-      let high = bytesOf at (rest / 256) in
-      let turn : w - k ≡ suc at = omega arith in
-      let long : length high ≡ at = length-bytesOf at (rest / 256) in
-      let one : sets next i high ≡ sets now i (bytesOf (w - k) rest) =
-      rw (e, turn) (sets-around high now i (i + at) (rest % 256) (omega arith) ∙ sets-then now i high (rest % 256 ∷ []) (i + at) (omega arith)) in
-      record { low = omega arith; long = rw e (length-set now (i + at) (rest % 256) ∙ so .long); left = rw (← here) one ∙ so .left }
-
-  pub storing-all : (k rest : ℕ) (now : List ℕ) → Storing w l i x k rest now → w ≤ k → now ≡ sets l i (bytesOf w x)
-  unfolding bytesOf
-  storing-all k rest now so h = let none : w - k ≡ 0 = omega arith in rw none at (so .left)
+-- ---- fields, one after another
 
 fieldsOf-append : (w : ℕ) (xs ys : List ℕ) → fieldsOf w (xs ++ ys) ≡ fieldsOf w xs ++ fieldsOf w ys
 unfolding fieldsOf

@@ -1,23 +1,23 @@
 // Numbers as bytes, most significant byte first.
+use super::turning::low_first;
+use super::turning::low_first_eight;
+use super::turning::put_low_first;
+use super::turning::put_low_first_eight;
+use super::turning::turn;
+use super::turning::turn_eight;
 ghost use mathlib.Core.Path.{_≡_};
-ghost use Prim.Native.Nat.{_+_, _*_, _≤_, _<_};
+ghost use Prim.Native.Nat.{_+_, _*_, _≤_};
 ghost use lib.ListN.{length, take};
 ghost use lib.Seq.{sets};
 ghost use Rattle.vectors.specs.Vectors.{vector};
 ghost use Rattle.vectors.specs.Bytes.{numberAt, bytesOf, fieldsOf};
-
-fn wide(b: u8) -> u16
-    ensures { λ r. ⌜ (r ≡ b) × (r < 256) ⌝ }
-{
-    b as u16
-}
 
 // The number of two bytes that stands at i. The callers have found the place to be there.
 pub fn field(s: &[u8], i: usize) -> u16
     requires { ⌜ i + 2 ≤ length (now s) ⌝ }
     ensures { λ r. ⌜ r ≡ numberAt 2 (now (s .entry)) i ⌝ }
 {
-    wide(s[i]) * 256 + wide(s[i + 1])
+    turn(low_first(s, i))
 }
 
 // The n numbers of two bytes from place i on, and 0 above. The callers have found them to be there.
@@ -37,11 +37,7 @@ pub fn wide_field(s: &[u8], i: usize) -> u64
     requires { ⌜ i + 8 ≤ length (now s) ⌝ }
     ensures { λ r. ⌜ r ≡ numberAt 8 (now (s .entry)) i ⌝ }
 {
-    let mut x = 0u64;
-    for k in 0..8 {
-        x = x * 256 + wide(s[i + k]) as u64;
-    }
-    x
+    turn_eight(low_first_eight(s, i))
 }
 
 // The n numbers of eight bytes from place i on, and 0 above. The callers have found them to be there.
@@ -61,8 +57,7 @@ pub fn put_field(out: &mut [u8], i: usize, x: u16)
     requires { ⌜ i + 2 ≤ length (now out) ⌝ }
     ensures { λ _. ⌜ now (out .exit) ≡ sets (now (out .entry)) i (bytesOf 2 x) ⌝ }
 {
-    out[i] = (x / 256 % 256) as u8;
-    out[i + 1] = (x % 256) as u8;
+    put_low_first(out, i, turn(x));
 }
 
 // The first n numbers of v go to place i and on. The callers have found room there.
@@ -75,16 +70,12 @@ pub fn put_fields(out: &mut [u8], i: usize, n: usize, v: [u16; 16])
     }
 }
 
-// The number x goes to place i, in eight bytes, the last one first. The callers have found room there.
+// The number x goes to place i, in eight bytes. The callers have found room there.
 pub fn put_wide_field(out: &mut [u8], i: usize, x: u64)
     requires { ⌜ i + 8 ≤ length (now out) ⌝ }
     ensures { λ _. ⌜ now (out .exit) ≡ sets (now (out .entry)) i (bytesOf 8 x) ⌝ }
 {
-    let mut rest = x;
-    for k in 0..8 {
-        out[i + (7 - k)] = (rest % 256) as u8;
-        rest = rest / 256;
-    }
+    put_low_first_eight(out, i, turn_eight(x));
 }
 
 // The first n numbers of v go to place i and on, each in eight bytes. The callers have found room there.

@@ -1,35 +1,21 @@
 -- `put_field` meets its contract.
-use lib.ListN.{length-set}
-use native.Mathlib.Numerals.{add-one}
-use native.Mathlib.Omega.{arith}
-use Rattle.vectors.specs.Bytes.{bytesOf}
+use Rattle.vectors.specs.Turned.{turned}
+use Rattle.vectors.proofs.Turned.{two-turn, written-back}
 use borrow.Author.Needs.{needs}
 use Rattle.vectors.proofs.bytes.put_field.Statement.{statement}
 use Rattle.vectors.proofs.bytes.put_field.Tie as tie
 
-cast-out : tie.Need-cast-out
-cast-out c = search needs
+turn-requires : tie.Need-turn-requires
+turn-requires c κs = search needs
 
-slice-write-out : tie.Need-slice-write-out
-slice-write-out c = search needs
-
-cast-out-2 : tie.Need-cast-out-2
-cast-out-2 c = search needs
-
-add-out : tie.Need-add-out
-add-out c = search needs
-
-slice-write-out-2 : tie.Need-slice-write-out-2
-slice-write-out-2 c = simp length-set (omega arith)
+put-low-first-requires : tie.Need-put-low-first-requires
+put-low-first-requires c κs = search needs
 
 same-length : tie.Need-same-length
 same-length c = search needs
 
 returns : tie.Need-returns
-unfolding bytesOf
-returns c = rw add-one
+returns c = written-back 2 turned two-turn _ _ _ _ _ (search needs) (c .before .before .before .turn .ensures) (c .before .before .put-low-first .ensures)
 
 pub put-field-spec : {M : Type 1} → statement M
-put-field-spec =
-    tie.close
-    (tie.spec cast-out slice-write-out cast-out-2 add-out slice-write-out-2 same-length returns)
+put-field-spec = tie.close (tie.spec turn-requires put-low-first-requires same-length returns)

@@ -1,61 +1,22 @@
 -- `put_wide_field` meets its contract.
-use Prim.Native.Nat.{_-_}
-use mathlib.Core.Path.{refl}
-use native.Mathlib.Omega.{arith}
-use Rattle.vectors.proofs.Numbers.{Storing, storing-none, storing-more, storing-all}
+use Rattle.vectors.specs.Turned.{turnedEight}
+use Rattle.vectors.proofs.Turned.{eight-turn, written-back}
 use borrow.Author.Needs.{needs}
 use Rattle.vectors.proofs.bytes.put_wide_field.Statement.{statement}
 use Rattle.vectors.proofs.bytes.put_wide_field.Tie as tie
 
-abbrev Inv-loop : tie.InvT-loop
-Inv-loop out₀ i x rest₀ k₀ out rest k = Storing 8 out₀ i x k rest out
+turn-eight-requires : tie.Need-turn-eight-requires
+turn-eight-requires c κs = search needs
 
-abbrev μ-loop : tie.MeasureT-loop
-μ-loop out₀ i x rest₀ k₀ out rest k = 8 - k
+put-low-first-eight-requires : tie.Need-put-low-first-eight-requires
+put-low-first-eight-requires c κs = search needs
 
-loop-holds : tie.Need-loop-holds Inv-loop μ-loop
-loop-holds c = storing-none _ _ _ _
-
-cast-out : tie.Need-cast-out Inv-loop μ-loop
-cast-out c = search needs
-
-sub-out : tie.Need-sub-out Inv-loop μ-loop
-sub-out c = search needs
-
-add-out : tie.Need-add-out Inv-loop μ-loop
-add-out c = search needs
-
-slice-write-out : tie.Need-slice-write-out Inv-loop μ-loop
-slice-write-out c = search needs
-
-add-k : tie.Need-add-k Inv-loop μ-loop
-add-k c = search needs
-
-loop-less : tie.Need-loop-less Inv-loop μ-loop
-loop-less c = search needs
-
-loop-again : tie.Need-loop-again Inv-loop μ-loop
-loop-again c = storing-more _ _ _ _ _ _ _ _ _ (c .before .loop .inv) (c .loop-test .taken) (omega arith) refl
-
-same-length : tie.Need-same-length Inv-loop μ-loop
+same-length : tie.Need-same-length
 same-length c = search needs
 
-returns : tie.Need-returns Inv-loop μ-loop
-returns c = storing-all _ _ _ _ _ _ _ (c .before .loop .inv) (c .loop-test .left)
+returns : tie.Need-returns
+returns c = written-back 8 turnedEight eight-turn _ _ _ _ _ (search needs) (c .before .before .before .turn-eight .ensures) (c .before .before .put-low-first-eight .ensures)
 
 pub put-wide-field-spec : {M : Type 1} → statement M
 put-wide-field-spec =
-    tie.close
-    (tie.spec
-    Inv-loop
-    μ-loop
-    loop-holds
-    cast-out
-    sub-out
-    add-out
-    slice-write-out
-    add-k
-    loop-less
-    loop-again
-    same-length
-    returns)
+    tie.close (tie.spec turn-eight-requires put-low-first-eight-requires same-length returns)
