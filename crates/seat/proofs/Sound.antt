@@ -12,7 +12,7 @@ use Rattle.vectors.proofs.Every.{and-both, all-at, all-of}
 use Rattle.vectors.proofs.Tests.{within-at, within-of, zero-above-at, zero-above-of}
 use Rattle.window.specs.Window.{bit, noneAbove, SoundWindow}
 use Rattle.window.specs.declared.Window.{Window}
-use Rattle.window.proofs.Bits.{true-or-false, highest-is-set}
+use Rattle.window.proofs.Bits.{true-or-false, bit-none, highest-is-set}
 use Rattle.window.proofs.Sound as window
 use Rattle.packet.specs.Writing.{inRange}
 use Rattle.packet.proofs.Writable.{in-range, range-holds}
@@ -114,6 +114,26 @@ same-test : (a b : Bool) → (a ≡ true → b ≡ true) → (b ≡ true → a �
 same-test true b there back = sym (there refl)
 same-test false true there back = back refl
 same-test false false there back = refl
+
+-- where no number is marked, the windows are sound when run is within past
+pub sound-without-marks : (seat : Seat) → zeroAbove 0 (seat .ahead) ≡ true → within (seat .run) (seat .past) ≡ soundWindows seat
+sound-without-marks seat none = same-test (within (seat .run) (seat .past)) (soundWindows seat) there back
+  where
+    clear : (k : ℕ) → k < 16 → (b : ℕ) → bit (getD (seat .ahead) k 0) b ≡ false
+    clear k h b = rw (zero-above-at 0 (seat .ahead) none k (omega arith) h) (bit-none b)
+
+    there : within (seat .run) (seat .past) ≡ true → soundWindows seat ≡ true
+    there e =
+        windows-pass seat
+        (λ k h.
+        record {
+          next-clear = clear k h 0;
+          run-within = within-at (seat .run) (seat .past) e k h;
+          marks-within = λ b i set. absurd (true≢false (sym set ∙ clear k h b));
+        })
+
+    back : soundWindows seat ≡ true → within (seat .run) (seat .past) ≡ true
+    back e = within-of (seat .run) (seat .past) (λ k h. windows-say seat e k h .run-within)
 
 module _ (seat : Seat) (words : (k : ℕ) → getD (seat .ahead) k 0 < 18446744073709551616) (range : inRange (headerOf seat) ≡ true) where
   past-alone-says : (zeroAbove (seat .n) (seat .past) && within (seat .barrier) (seat .past) && soundWindows seat) ≡ true → soundState seat ≡ true

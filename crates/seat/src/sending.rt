@@ -24,7 +24,8 @@ pub fn own_count(seat: Seat) -> u16
     ensures { λ r. ⌜ r ≡ ownCount seat ⌝ }
 {
     let at = (seat.own.0 - 1) as usize;
-    seat.past[at]
+    let past = seat.past;
+    past[at]
 }
 
 // Line 1: the barrier that the packet carries is past if causal.

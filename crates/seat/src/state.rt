@@ -6,6 +6,7 @@ use packet::Heading;
 use packet::Kind;
 use packet::in_range;
 use vectors::is_within;
+use vectors::is_zero;
 use vectors::is_zero_above;
 use vectors::max_of;
 use window::Window;
@@ -21,6 +22,7 @@ pub fn header_of(seat: Seat) -> Header
     Header { n: seat.n, sender }
 }
 
+// Whether each sender's window is sound.
 fn has_sound_windows(seat: Seat) -> bool
     ensures { λ r. ⌜ r ≡ soundWindows seat ⌝ }
 {
@@ -34,6 +36,19 @@ fn has_sound_windows(seat: Seat) -> bool
     ok
 }
 
+// The same. Where no number is marked, run alone is looked at.
+fn has_sound_counts(seat: Seat) -> bool
+    ensures { λ r. ⌜ r ≡ soundWindows seat ⌝ }
+{
+    let past = seat.past;
+    let reached = seat.run;
+    let words = seat.ahead;
+    if is_zero(words) {
+        return is_within(reached, past);
+    }
+    has_sound_windows(seat)
+}
+
 // Whether the state is sound. That barrier, run and ahead are 0 above n follows from past being 0 there.
 pub fn is_sound(seat: Seat) -> bool
     ensures { λ r. ⌜ r ≡ soundState seat ⌝ }
@@ -44,7 +59,7 @@ pub fn is_sound(seat: Seat) -> bool
     let seats = seat.n as usize;
     let past = seat.past;
     let barrier = seat.barrier;
-    is_zero_above(seats, past) & is_within(barrier, past) & has_sound_windows(seat)
+    is_zero_above(seats, past) & is_within(barrier, past) & has_sound_counts(seat)
 }
 
 // Line 5: every edit that the packet waits for is handed over here.

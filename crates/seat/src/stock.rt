@@ -89,8 +89,9 @@ pub fn window_with(seat: Seat, words: [u64; 16], sender: SeatNo) -> Window
     ensures { λ r. ⌜ r ≡ windowWith seat words sender ⌝ }
 {
     let at = (sender.0 - 1) as usize;
+    let reached = seat.run;
     Window {
-        run: seat.run[at],
+        run: reached[at],
         ahead: words[at],
     }
 }
@@ -204,7 +205,7 @@ pub fn survey(seat: Seat, shelf: &[u8]) -> Stock
         key: NO_KEY,
     };
     for i in 0..n {
-        if !shelf::is_zero(shelf::slot(shelf, i)) {
+        if !shelf::is_free(shelf::slot(shelf, i)) {
             stock = look(seat, shelf, i, stock);
             if !stock.sound {
                 return stock;

@@ -1,25 +1,16 @@
 -- Laws of zeros: bytes that are all zero, the byte that gathers them, and zeros that are stored.
 use Prim.Native.Nat.{ℕ, _+_, _-_, _≤_, _<_}
 use mathlib.Core.Path.{_≡_, sym, ap, _∙_}
-use mathlib.Core.Bool.{true, false, _&&_}
+use mathlib.Core.Bool.{true, false}
 use mathlib.Core.List.{List, [], _∷_, _++_, append-nil}
-use native.Mathlib.Decide.{ℕ-discrete, decLt}
+use native.Mathlib.Decide.{decLt}
 use native.Mathlib.Omega.{arith}
-use lib.Bits.{bitOr, or-zero-l, or-add-and, and-le-r}
 use lib.Dec.{eqb}
 use lib.ListN.{length, getD, take, drop, replicate, length-append, length-take, length-replicate, getD-replicate, replicate-append-replicate, take-append-drop, drop-of-length-le, List·getD-eq-default}
 use lib.Seq.{ext-getD, getD-take, getD-drop, sets, sets-eq}
 use borrow.Author.Tests.{eqb-true, eq-eqb, ne-eqb}
 use Rattle.vectors.proofs.Every.{all-at, all-of, all-fails}
 use Rattle.shelf.specs.Shelf.{allZero}
-
--- two bytes gathered are 0 exactly where both are
-pub or-is-zero : (a b : ℕ) → eqb (bitOr a b) 0 ≡ (eqb a 0 && eqb b 0)
-or-is-zero a b =
-    elim (ℕ-discrete a 0) [
-      | yes zero ↦ rw (zero, or-zero-l b)
-      | no some ↦ rw (ne-eqb a 0 some) (ne-eqb (bitOr a b) 0 (λ e. some (omega (arith, or-add-and a b, and-le-r a b))))
-    ]
 
 module _ (s : List ℕ) where
   -- what is all zero is 0 everywhere, and the other way round

@@ -23,6 +23,17 @@ pub fn is_zero(s: &[u8]) -> bool
     gathered == 0
 }
 
+// Whether a slot is free. One that is in use shows it by its first byte. The callers hand over a whole slot.
+pub fn is_free(slot: &[u8]) -> bool
+    requires { ⌜ length (now slot) ≡ slotSize ⌝ }
+    ensures { λ r. ⌜ r ≡ allZero (now (slot .entry)) ⌝ }
+{
+    if slot[0] != 0 {
+        return false;
+    }
+    is_zero(slot)
+}
+
 // Whether the shelf is whole slots, and not too many of them.
 pub fn has_whole_slots(shelf: &[u8]) -> bool
     ensures { λ r. ⌜ r ≡ wholeSlots (now (shelf .entry)) ⌝ }
@@ -46,7 +57,7 @@ pub fn lowest_free(shelf: &[u8]) -> usize
 {
     let n = shelf.len() / SLOT_SIZE;
     for i in 0..n {
-        if is_zero(slot(shelf, i)) {
+        if is_free(slot(shelf, i)) {
             return i;
         }
     }

@@ -1,17 +1,26 @@
 -- Laws of the tests over vectors: what each says of every entry, and the other way round.
 use Prim.Native.Nat.{ℕ, _≤_, _<_, max}
-use mathlib.Core.Path.{_≡_, sym, ap, _∙_}
+use mathlib.Core.Path.{_≡_, refl, sym, ap, _∙_}
 use mathlib.Core.List.{List}
-use mathlib.Core.Bool.{true, or-true}
-use native.Mathlib.Decide.{decLt}
+use mathlib.Core.Bool.{true, _&&_, or-true}
+use native.Mathlib.Decide.{ℕ-discrete, decLt}
 use native.Mathlib.Omega.{arith}
-use lib.Dec.{ltb}
+use lib.Bits.{bitOr, or-zero-l, or-add-and, and-le-r}
+use lib.Dec.{ltb, eqb}
 use lib.ListN.{length, getD}
 use lib.Seq.{ext-getD}
-use borrow.Author.Tests.{lt-ltb, le-ltb, leb-true, eqb-true, le-leb, eq-eqb}
-use Rattle.vectors.specs.Vectors.{vector, within, same, zeroAbove, maxes}
+use borrow.Author.Tests.{lt-ltb, le-ltb, leb-true, eqb-true, le-leb, eq-eqb, ne-eqb}
+use Rattle.vectors.specs.Vectors.{all, vector, within, same, zeroAbove, maxes}
 use Rattle.vectors.proofs.Every.{all-at, all-of}
 use Rattle.vectors.proofs.Vector.{length-vector, vector-below, vector-above}
+
+-- two numbers gathered are 0 exactly where both are
+pub or-is-zero : (a b : ℕ) → eqb (bitOr a b) 0 ≡ (eqb a 0 && eqb b 0)
+or-is-zero a b =
+    elim (ℕ-discrete a 0) [
+      | yes zero ↦ rw (zero, or-zero-l b)
+      | no some ↦ rw (ne-eqb a 0 some) (ne-eqb (bitOr a b) 0 (λ e. some (omega (arith, or-add-and a b, and-le-r a b))))
+    ]
 
 module _ (a b : List ℕ) where
   pub within-at : within a b ≡ true → (k : ℕ) → k < 16 → getD a k 0 ≤ getD b k 0
@@ -29,6 +38,11 @@ module _ (a b : List ℕ) where
   pub same-of : a ≡ b → same a b ≡ true
   unfolding same
   same-of e = all-of _ 16 (λ k h. eq-eqb _ _ (ap (λ (l : List ℕ). getD l k 0) e))
+
+-- every entry is above 0 seats
+pub zero-above-none : (v : List ℕ) → zeroAbove 0 v ≡ all 16 (λ k. eqb (getD v k 0) 0)
+unfolding zeroAbove all
+zero-above-none v = refl
 
 module _ (n : ℕ) (v : List ℕ) where
   pub zero-above-at : zeroAbove n v ≡ true → (k : ℕ) → n ≤ k → k < 16 → getD v k 0 ≡ 0

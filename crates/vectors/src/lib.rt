@@ -40,6 +40,17 @@ pub fn is_zero_above(n: usize, v: [u16; 16]) -> bool
     ok
 }
 
+// Whether every word is 0.
+pub fn is_zero(words: [u64; 16]) -> bool
+    ensures { λ r. ⌜ r ≡ zeroAbove 0 words ⌝ }
+{
+    let mut gathered: u64 = 0;
+    for k in 0..16 {
+        gathered = gathered | words[k];
+    }
+    gathered == 0
+}
+
 fn larger(a: u16, b: u16) -> u16
     ensures { λ r. ⌜ r ≡ max a b ⌝ }
 {

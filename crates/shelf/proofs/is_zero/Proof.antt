@@ -5,7 +5,7 @@ use lib.Dec.{eqb}
 use lib.ListN.{length, getD}
 use Rattle.vectors.proofs.Every.{Gathered, gathered-none, gathered-more, gathered-all}
 use Rattle.shelf.specs.Shelf.{allZero}
-use Rattle.shelf.proofs.Zeros.{or-is-zero}
+use Rattle.vectors.proofs.Tests.{or-is-zero}
 use borrow.Author.Needs.{needs}
 use Rattle.shelf.proofs.is_zero.Statement.{statement}
 use Rattle.shelf.proofs.is_zero.Tie as tie

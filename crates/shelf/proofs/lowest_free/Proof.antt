@@ -4,9 +4,11 @@ use mathlib.Core.Bool.{false}
 use mathlib.Core.Path.{_≡_, sym, ap, _∙_}
 use denote.Ref.{now}
 use native.Mathlib.Omega.{arith}
+use lib.ListN.{length}
 use borrow.Author.Count.{below-more}
 use Rattle.shelf.specs.Shelf.{allZero, isFree}
 use Rattle.shelf.proofs.Lowest.{only-lowest}
+use Rattle.shelf.proofs.Slots.{length-slotAt}
 use borrow.Author.Needs.{needs}
 use Rattle.shelf.proofs.lowest_free.Statement.{statement}
 use Rattle.shelf.proofs.lowest_free.Tie as tie
@@ -23,13 +25,13 @@ loop-holds c = (omega arith, λ k h. absurd (omega arith))
 slot-requires : tie.Need-slot-requires Inv-loop μ-loop
 slot-requires c κs = c .loop-test .taken
 
-is-zero-requires : tie.Need-is-zero-requires Inv-loop μ-loop
-is-zero-requires c κs = search needs
+is-free-requires : tie.Need-is-free-requires Inv-loop μ-loop
+is-free-requires c κs = ap length (c .slot .ensures) ∙ length-slotAt _ _ (c .before .loop-test .taken)
 
 -- what the test says of slot i
-tested : (c : tie.After-is-zero Inv-loop μ-loop)
-    → c .is-zero .result ≡ isFree (now (c .before .before .before .before .before .args .shelf)) (c .before .before .before .loop .i)
-tested c = c .is-zero .ensures ∙ ap allZero (c .before .slot .ensures)
+tested : (c : tie.After-is-free Inv-loop μ-loop)
+    → c .is-free .result ≡ isFree (now (c .before .before .before .before .before .args .shelf)) (c .before .before .before .loop .i)
+tested c = c .is-free .ensures ∙ ap allZero (c .before .slot .ensures)
 
 returns : tie.Need-returns Inv-loop μ-loop
 returns c = let turn = c .before .before .before in
@@ -58,7 +60,7 @@ lowest-free-spec =
     μ-loop
     loop-holds
     slot-requires
-    is-zero-requires
+    is-free-requires
     returns
     add-i
     loop-less

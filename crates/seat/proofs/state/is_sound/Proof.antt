@@ -39,15 +39,15 @@ is-zero-above-requires c κs = search needs
 is-within-requires : tie.Need-is-within-requires
 is-within-requires c κs = search needs
 
-has-sound-windows-requires : tie.Need-has-sound-windows-requires
-has-sound-windows-requires c κs = search needs
+has-sound-counts-requires : tie.Need-has-sound-counts-requires
+has-sound-counts-requires c κs = search needs
 
 returns-2 : tie.Need-returns-2
 returns-2 c = let within = c .before in
     let zero = within .before in
     let passed = zero .before .before .before .before in
     let start = passed .before .before .before in
-    (λ i. zero .is-zero-above .ensures i && within .is-within .ensures i && c .has-sound-windows .ensures i)
+    (λ i. zero .is-zero-above .ensures i && within .is-within .ensures i && c .has-sound-counts .ensures i)
     ∙ past-alone-is-tested (start .args .seat) (words-fit start) (sym (range-is (passed .before)) ∙ not-false _ (passed .if1 .left))
 
 pub is-sound-spec : {M : Type 1} → statement M
@@ -60,5 +60,5 @@ is-sound-spec =
     cast-seats
     is-zero-above-requires
     is-within-requires
-    has-sound-windows-requires
+    has-sound-counts-requires
     returns-2)

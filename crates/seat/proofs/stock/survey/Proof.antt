@@ -5,8 +5,10 @@ use mathlib.Core.Path.{_≡_, refl, sym, ap, _∙_, subst}
 use mathlib.Core.Logic.{⊎-elim}
 use denote.Ref.{now}
 use native.Mathlib.Omega.{arith}
+use lib.ListN.{length}
 use borrow.Author.Tests.{not-true, not-false}
 use Rattle.shelf.specs.Shelf.{allZero, isFree}
+use Rattle.shelf.proofs.Slots.{length-slotAt}
 use Rattle.seat.specs.Survey.{Looked}
 use Rattle.seat.specs.declared.stock.Stock.{Stock}
 use Rattle.seat.proofs.Looked.{slot-is-free, looked-at-none, looked-at-all, looked-in-vain}
@@ -21,9 +23,9 @@ abbrev μ-loop : tie.MeasureT-loop
 μ-loop seat shelf n stock₀ i₀ stock i = n - i
 
 -- what the test says of slot i
-tested : (c : tie.After-is-zero Inv-loop μ-loop)
-    → let at = c .before .before .before in c .is-zero .result ≡ isFree (now (at .before .before .before .args .shelf)) (at .loop .i)
-tested c = c .is-zero .ensures ∙ ap allZero (c .before .slot .ensures)
+tested : (c : tie.After-is-free Inv-loop μ-loop)
+    → let at = c .before .before .before in c .is-free .result ≡ isFree (now (at .before .before .before .args .shelf)) (at .loop .i)
+tested c = c .is-free .ensures ∙ ap allZero (c .before .slot .ensures)
 
 -- what holds after slot i, whether it is in use or free
 abbrev Seen : (c : tie.Joined1 Inv-loop μ-loop) → Stock → Type 0
@@ -44,8 +46,8 @@ loop-holds c = (omega arith, refl, looked-at-none _ _ _ refl refl refl refl)
 slot-requires : tie.Need-slot-requires Inv-loop μ-loop
 slot-requires c κs = search needs
 
-is-zero-requires : tie.Need-is-zero-requires Inv-loop μ-loop
-is-zero-requires c κs = search needs
+is-free-requires : tie.Need-is-free-requires Inv-loop μ-loop
+is-free-requires c κs = ap length (c .slot .ensures) ∙ length-slotAt _ _ (c .before .loop-test .taken)
 
 look-requires : tie.Need-look-requires Inv-loop μ-loop
 look-requires c κs = let at = c .before .before .before .before in
@@ -74,7 +76,7 @@ survey-spec =
     μ-loop
     loop-holds
     slot-requires
-    is-zero-requires
+    is-free-requires
     look-requires
     returns
     add-i
