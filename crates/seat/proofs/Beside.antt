@@ -1,9 +1,10 @@
 -- Laws of a packet beside the words that a look gathers: the tests that it passes, and being counted in.
-use Prim.Native.Nat.{ℕ, _+_, _≤_, _<_}
+use Prim.Native.Nat.{ℕ, _+_, _-_, _≤_, _<_}
 use mathlib.Core.Path.{_≡_, refl, sym, ap, _∙_}
 use mathlib.Core.Bool.{Bool, true, false, not, _&&_, _||_, Bool·not-not}
 use mathlib.Core.List.{List}
 use lib.Dec.{eqb, ltb}
+use lib.ListN.{length, length-set}
 use borrow.Author.Tests.{not-true, ltb-false}
 use Rattle.answers.specs.declared.SeatNo.{SeatNo}
 use Rattle.vectors.specs.Vectors.{entry}
@@ -71,3 +72,7 @@ module _ (seat : Seat) (stock : Stock) (i : ℕ) (sender : SeatNo) (past barrier
       → Counted seat stock i sender past barrier (record { sound = true; marks = marks; first = stock .first; key = stock .key })
   counted-later e =
       record { stays-sound = refl; marks-are = marks-counted; first-is = rw (compared false e); key-is = rw (compared false e) }
+
+pub counted-length : (seat : Seat) (stock : Stock) (i : ℕ) (sender : SeatNo) (past barrier : List ℕ) (next : Stock) → Counted seat stock i sender past barrier next
+    → length (stock .marks) ≡ 16 → length (next .marks) ≡ 16
+counted-length seat stock i sender past barrier next counted long = ap length (counted .marks-are) ∙ length-set (stock .marks) (sender .0 - 1) _ ∙ long

@@ -4,19 +4,24 @@ use mathlib.Core.Path.{_≡_}
 use mathlib.Core.Bool.{Bool, true, false, cond, not, _&&_, _||_}
 use mathlib.Core.List.{List}
 use lib.Dec.{ltb}
-use lib.ListN.{set}
+use lib.ListN.{length, set}
 use Rattle.answers.specs.declared.SeatNo.{SeatNo}
 use Rattle.vectors.specs.Vectors.{entry}
 use Rattle.window.specs.Window.{handed, marked}
 use Rattle.window.specs.declared.Window.{Window}
 use Rattle.packet.specs.Packet.{senderOf}
 use Rattle.packet.specs.declared.Heading.{Heading}
-use Rattle.shelf.specs.Shelf.{slots}
+use Rattle.shelf.specs.Shelf.{slots, isFree}
 use Rattle.seat.specs.Stock.{packetAt, numberOf, otherSession, aboveOwnCount, isHanded, tooFarAhead, onSlots, onShelf, soundSlots}
 use Rattle.seat.specs.HandingOver.{ready}
 use Rattle.seat.specs.Releasing.{readyAt, chosen}
 use Rattle.seat.specs.declared.Seat.{Seat}
 use Rattle.seat.specs.declared.stock.Stock.{Stock}
+use Rattle.seat.specs.declared.stock.Seen.{Seen}
+
+-- What a look has found, with the words that it has gathered.
+abbrev pub stockOf : Seen → List ℕ → Stock
+stockOf seen marks = record { sound = seen .sound; marks = marks; first = seen .first; key = seen .key }
 
 -- A sender's window with other words in place of ahead.
 abbrev pub windowWith : Seat → List ℕ → SeatNo → Window
@@ -72,6 +77,17 @@ pub record Looked (n : ℕ) (seat : Seat) (shelf : List ℕ) (stock : Stock) : T
   pub marks-are : stock .sound ≡ true → (sender : SeatNo) (number : ℕ) → 1 ≤ sender .0 → sender .0 ≤ 16
       → handed (windowWith seat (stock .marks) sender) number ≡ (isHanded seat sender number || onSlots n shelf sender number)
   pub first-is : stock .sound ≡ true → FirstReady n seat shelf (stock .first) (stock .key)
+
+-- What is known before slot i is looked at: it is there and in use, those before it are sound, and the own number is in
+-- range.
+pub record Looking (i : ℕ) (seat : Seat) (shelf : List ℕ) (seen : Seen) (marks : List ℕ) : Type 0 where
+  pub there : i < slots shelf
+  pub used : isFree shelf i ≡ false
+  pub sound : seen .sound ≡ true
+  pub long : length marks ≡ 16
+  pub own-low : 1 ≤ seat .own .0
+  pub own-high : seat .own .0 ≤ 16
+  pub looked : Looked i seat shelf (stockOf seen marks)
 
 -- Whether the slots are sound, and if so: the numbers handed over or on the shelf, and the slot to release.
 pub record Surveyed (seat : Seat) (shelf : List ℕ) (stock : Stock) : Type 0 where

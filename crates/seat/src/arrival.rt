@@ -111,7 +111,7 @@ pub fn settle(
     let marks = stock.marks;
     let sender = heading.sender;
     let number = edit.number;
-    let repeated = window_with(seat, marks, sender).holds(number);
+    let repeated = window_with(seat, &marks, sender).holds(number);
     let answer = judged(seat, heading, past, barrier, repeated, edit, &*shelf);
     match answer {
         Answer::Done(_) => {

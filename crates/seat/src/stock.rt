@@ -1,5 +1,6 @@
 // The packets on a shelf, as a seat sees them.
 use super::Seat;
+use super::sending::own_count;
 use super::state::is_ready;
 use super::state::is_sound;
 use answers::EditNo;
@@ -14,9 +15,9 @@ ghost use mathlib.Core.Bool.{true, false};
 ghost use Prim.Native.Nat.{_+_, _≤_, _<_};
 ghost use lib.ListN.{length};
 ghost use Rattle.vectors.specs.Vectors.{entry};
-ghost use Rattle.shelf.specs.Shelf.{slotSize, slots, isFree};
+ghost use Rattle.shelf.specs.Shelf.{slotSize};
 ghost use Rattle.seat.specs.Stock.{packetIn, aboveOwnCount, tooFarAhead};
-ghost use Rattle.seat.specs.Survey.{windowWith, markedWith, passesBeside, keyOf, Counted, Looked, Surveyed};
+ghost use Rattle.seat.specs.Survey.{windowWith, markedWith, passesBeside, keyOf, stockOf, Counted, Looked, Looking, Surveyed};
 ghost use Rattle.seat.specs.Steps.{LookedOver};
 
 // Above the key of every packet.
@@ -27,6 +28,13 @@ const NO_KEY: u32 = 4294967295;
 pub struct Stock {
     pub sound: bool,
     pub marks: [u64; 16],
+    pub first: usize,
+    pub key: u32,
+}
+
+// The same but for the words, which are gathered beside it.
+pub struct Seen {
+    pub sound: bool,
     pub first: usize,
     pub key: u32,
 }
@@ -84,9 +92,9 @@ pub fn is_too_far_ahead(seat: Seat, sender: SeatNo, number: EditNo) -> bool
 }
 
 // A sender's window, with other words in place of ahead. The callers have read the sender from a packet.
-pub fn window_with(seat: Seat, words: [u64; 16], sender: SeatNo) -> Window
+pub fn window_with(seat: Seat, words: &[u64; 16], sender: SeatNo) -> Window
     requires { ⌜ (1 ≤ sender .0) × (sender .0 ≤ 16) ⌝ }
-    ensures { λ r. ⌜ r ≡ windowWith seat words sender ⌝ }
+    ensures { λ r. ⌜ r ≡ windowWith seat (now (words .entry)) sender ⌝ }
 {
     let at = (sender.0 - 1) as usize;
     let reached = seat.run;
@@ -96,29 +104,31 @@ pub fn window_with(seat: Seat, words: [u64; 16], sender: SeatNo) -> Window
     }
 }
 
-// Refusals 15 to 18 of a packet that was read, beside the numbers that are handed over or on the shelf.
-fn passes_beside(seat: Seat, words: [u64; 16], heading: Heading, past: [u16; 16]) -> bool
-    requires { ⌜ (1 ≤ heading .sender .0) × (heading .sender .0 ≤ 16) ⌝ }
-    ensures { λ r. ⌜ r ≡ passesBeside seat words heading past ⌝ }
+// Refusals 15 to 18 of a packet that was read, beside the numbers that are handed over or on the shelf. The callers have
+// found the own number to be in range.
+fn passes_beside(seat: Seat, words: &[u64; 16], heading: Heading, past: [u16; 16]) -> bool
+    requires { ⌜ (1 ≤ heading .sender .0) × (heading .sender .0 ≤ 16) × (1 ≤ seat .own .0) × (seat .own .0 ≤ 16) ⌝ }
+    ensures { λ r. ⌜ r ≡ passesBeside seat (now (words .entry)) heading past ⌝ }
 {
     let sender = heading.sender;
-    let number = EditNo(entry_of(past, sender));
-    let repeated = window_with(seat, words, sender).holds(number);
-    let above = is_above_own_count(seat, past);
-    let far = is_too_far_ahead(seat, sender, number);
+    let at = (sender.0 - 1) as usize;
+    let own = (seat.own.0 - 1) as usize;
+    let number = EditNo(past[at]);
+    let window = window_with(seat, words, sender);
+    let repeated = window.holds(number);
+    let above = own_count(seat) < past[own];
+    let far = window.run as u32 + 64 < number.0 as u32;
     (heading.n == seat.n) & !above & !repeated & !far
 }
 
-// The words with a sender's number marked. The caller has found the number to be in the sender's window.
-fn with_mark(seat: Seat, words: [u64; 16], sender: SeatNo, number: EditNo) -> [u64; 16]
+// A sender's number is marked in the words. The caller has found the number to be in the sender's window.
+fn mark_in(seat: Seat, marks: &mut [u64; 16], sender: SeatNo, number: EditNo)
     requires { ⌜ (1 ≤ sender .0) × (sender .0 ≤ 16) × (entry (seat .run) sender < number .0) × (number .0 ≤ entry (seat .run) sender + 64) ⌝ }
-    ensures { λ r. ⌜ r ≡ markedWith seat words sender (number .0) ⌝ }
+    ensures { λ _. ⌜ now (marks .exit) ≡ markedWith seat (now (marks .entry)) sender (number .0) ⌝ }
 {
     let at = (sender.0 - 1) as usize;
-    let window = window_with(seat, words, sender).mark(number);
-    let mut marks = words;
+    let window = window_with(seat, &*marks, sender).mark(number);
     marks[at] = window.ahead;
-    marks
 }
 
 // One number for a sender and a number, lowest for the packet that comes first: by sender, then by number.
@@ -132,87 +142,96 @@ fn key_of(sender: SeatNo, number: EditNo) -> u32
 // lower. The caller has found its number to be in the sender's window.
 fn count_in(
     seat: Seat,
-    stock: Stock,
+    marks: &mut [u64; 16],
+    seen: Seen,
     i: usize,
     sender: SeatNo,
     past: [u16; 16],
     barrier: [u16; 16],
-) -> Stock
+) -> Seen
     requires { ⌜ (1 ≤ sender .0) × (sender .0 ≤ 16) × (entry (seat .run) sender < entry past sender) × (entry past sender ≤ entry (seat .run) sender + 64) ⌝ }
-    ensures { λ r. ⌜ Counted seat stock i sender past barrier r ⌝ }
+    ensures { λ r. ⌜ Counted seat (stockOf seen (now (marks .entry))) i sender past barrier (stockOf r (now (marks .exit))) ⌝ }
 {
-    let number = EditNo(entry_of(past, sender));
-    let words = stock.marks;
-    let marks = with_mark(seat, words, sender, number);
+    let at = (sender.0 - 1) as usize;
+    let number = EditNo(past[at]);
+    mark_in(seat, marks, sender, number);
     let key = key_of(sender, number);
-    if is_ready(seat, barrier) & (key < stock.key) {
-        return Stock {
+    if is_ready(seat, barrier) & (key < seen.key) {
+        return Seen {
             sound: true,
-            marks,
             first: i,
             key,
         };
     }
-    Stock {
+    Seen {
         sound: true,
-        marks,
-        first: stock.first,
-        key: stock.key,
+        first: seen.first,
+        key: seen.key,
     }
 }
 
-fn unsound(stock: Stock) -> Stock
+fn unsound(seen: Seen) -> Seen
     ensures { λ r. ⌜ r .sound ≡ false ⌝ }
 {
-    let mut bad = stock;
+    let mut bad = seen;
     bad.sound = false;
     bad
 }
 
 // Slot i is looked at. The caller has found the slot to be there and in use, and those before it to be sound.
-fn look(seat: Seat, shelf: &[u8], i: usize, stock: Stock) -> Stock
-    requires { ⌜ (i < slots (now shelf)) × (isFree (now shelf) i ≡ false) × (stock .sound ≡ true) × Looked i seat (now shelf) stock ⌝ }
-    ensures { λ r. ⌜ Looked (i + 1) seat (now (shelf .entry)) r ⌝ }
+fn look(seat: Seat, shelf: &[u8], i: usize, marks: &mut [u64; 16], seen: Seen) -> Seen
+    requires { ⌜ Looking i seat (now shelf) seen (now marks) ⌝ }
+    ensures { λ r. ⌜ (length (now (marks .exit)) ≡ 16) × Looked (i + 1) seat (now (shelf .entry)) (stockOf r (now (marks .exit))) ⌝ }
 {
     let slot = shelf::slot(shelf, i);
     let reading = packet::read(packet_in(slot));
     let answer = reading.answer;
     match answer {
-        ReadAnswer::Refused => unsound(stock),
+        ReadAnswer::Refused => unsound(seen),
         ReadAnswer::Packet(heading) => {
             let sender = heading.sender;
             let past = reading.past;
             let barrier = reading.barrier;
-            let marks = stock.marks;
-            if !passes_beside(seat, marks, heading, past) {
-                return unsound(stock);
+            if !passes_beside(seat, &*marks, heading, past) {
+                return unsound(seen);
             }
-            count_in(seat, stock, i, sender, past, barrier)
+            count_in(seat, marks, seen, i, sender, past, barrier)
         }
     }
 }
 
-// One look over the shelf.
+fn stock_of(seen: Seen, marks: [u64; 16]) -> Stock
+    ensures { λ r. ⌜ r ≡ stockOf seen marks ⌝ }
+{
+    Stock {
+        sound: seen.sound,
+        marks,
+        first: seen.first,
+        key: seen.key,
+    }
+}
+
+// One look over the shelf. The caller has found the own number to be in range.
 pub fn survey(seat: Seat, shelf: &[u8]) -> Stock
+    requires { ⌜ (1 ≤ seat .own .0) × (seat .own .0 ≤ 16) ⌝ }
     ensures { λ r. ⌜ Surveyed seat (now (shelf .entry)) r ⌝ }
 {
     let n = shelf.len() / SLOT_SIZE;
-    let marks = seat.ahead;
-    let mut stock = Stock {
+    let mut marks = seat.ahead;
+    let mut seen = Seen {
         sound: true,
-        marks,
         first: n,
         key: NO_KEY,
     };
     for i in 0..n {
         if !shelf::is_free(shelf::slot(shelf, i)) {
-            stock = look(seat, shelf, i, stock);
-            if !stock.sound {
-                return stock;
+            seen = look(seat, shelf, i, &mut marks, seen);
+            if !seen.sound {
+                return stock_of(seen, marks);
             }
         }
     }
-    stock
+    stock_of(seen, marks)
 }
 
 // One look over state and shelf: not sound where the state or the shelf's length is not.

@@ -1,15 +1,16 @@
 -- Laws of zeros: bytes that are all zero, the byte that gathers them, and zeros that are stored.
 use Prim.Native.Nat.{ℕ, _+_, _-_, _≤_, _<_}
 use mathlib.Core.Path.{_≡_, sym, ap, _∙_}
-use mathlib.Core.Bool.{true, false}
+use mathlib.Core.Bool.{Bool, true, false, _&&_}
 use mathlib.Core.List.{List, [], _∷_, _++_, append-nil}
 use native.Mathlib.Decide.{decLt}
 use native.Mathlib.Omega.{arith}
 use lib.Dec.{eqb}
-use lib.ListN.{length, getD, take, drop, replicate, length-append, length-take, length-replicate, getD-replicate, replicate-append-replicate, take-append-drop, drop-of-length-le, List·getD-eq-default}
-use lib.Seq.{ext-getD, getD-take, getD-drop, sets, sets-eq}
+use lib.ListN.{length, getD, take, drop, length-drop, replicate, length-append, length-take, length-replicate, getD-replicate, replicate-append-replicate, take-append-drop, drop-of-length-le, List·getD-eq-default}
+use lib.Seq.{length-take-le, ext-getD, getD-take, getD-drop, sets, sets-eq}
 use borrow.Author.Tests.{eqb-true, eq-eqb, ne-eqb}
-use Rattle.vectors.proofs.Every.{all-at, all-of, all-fails}
+use Rattle.vectors.specs.Vectors.{all}
+use Rattle.vectors.proofs.Every.{all-at, all-of, all-fails, all-same, all-split}
 use Rattle.shelf.specs.Shelf.{allZero}
 
 module _ (s : List ℕ) where
@@ -33,6 +34,21 @@ module _ (s : List ℕ) where
   pub all-zero-are-zeros : allZero s ≡ true → s ≡ replicate (length s) 0
   all-zero-are-zeros e =
       ext-getD 0 s (replicate (length s) 0) (sym (length-replicate (length s) 0)) (λ k h. all-zero-at k e ∙ sym (getD-replicate (length s) k 0 0 h))
+
+-- the first places, and the part after them
+pub all-zero-parts : (s : List ℕ) (at : ℕ) → at ≤ length s
+    → allZero s ≡ (all at (λ k. eqb (getD s k 0) 0) && allZero (take (length s - at) (drop at s)))
+unfolding allZero
+all-zero-parts s at h =
+    let test : ℕ → Bool = λ k. eqb (getD s k 0) 0 in
+    let rest = length s - at in
+    let whole : length s ≡ at + rest = omega arith in
+    let long : length (take rest (drop at s)) ≡ rest = length-take-le rest (drop at s) (omega (arith, length-drop at s)) in
+    ap (λ (n : ℕ). all n test) whole
+    ∙ all-split at rest test
+    ∙ ap (λ (t : Bool). all at test && t)
+    (all-same rest _ _ (λ k less. ap (λ (x : ℕ). eqb x 0) (sym (getD-take rest (drop at s) k 0 less ∙ getD-drop at s k 0)))
+    ∙ ap (λ (n : ℕ). all n (λ k. eqb (getD (take rest (drop at s)) k 0) 0)) (sym long))
 
 pub zeros-are-all-zero : (n : ℕ) → allZero (replicate n 0) ≡ true
 zeros-are-all-zero n = all-zero-of (replicate n 0) (λ k h. getD-replicate n k 0 0 (rw length-replicate at h))

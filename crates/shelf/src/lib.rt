@@ -1,9 +1,11 @@
 // A shelf: a lent buffer of whole slots, each all zero (free), or a byte 1, a packet, and zeros to its end. What a packet
 // says is not known here. The loops over bytes have no early exit, so that the compiler makes wide code of them.
 ghost use mathlib.Core.Path.{_≡_};
-ghost use Prim.Native.Nat.{_+_, _-_, _≤_, _<_};
-ghost use lib.ListN.{length, replicate};
+ghost use Prim.Native.Nat.{_+_, _*_, _-_, _≤_, _<_};
+ghost use lib.Dec.{eqb};
+ghost use lib.ListN.{length, getD, replicate};
 ghost use lib.Seq.{sets};
+ghost use Rattle.vectors.specs.Vectors.{all};
 ghost use Rattle.shelf.specs.Shelf.{slotSize, slots, wholeSlots, slotAt, allZero, slotOf, laid, freeSlot, lowestFree};
 
 // The bytes of a slot.
@@ -12,8 +14,20 @@ pub const SLOT_SIZE: usize = 268;
 // The most slots that a shelf has.
 pub const SLOTS_MOST: usize = 32;
 
-// Whether every byte is 0.
-pub fn is_zero(s: &[u8]) -> bool
+// Whether the bytes of the first fours are 0. The caller has found them to be there.
+fn has_zero_fours(s: &[u8], count: usize) -> bool
+    requires { ⌜ 4 * count ≤ length (now s) ⌝ }
+    ensures { λ r. ⌜ r ≡ all (4 * count) (λ k. eqb (getD (now (s .entry)) k 0) 0) ⌝ }
+{
+    let mut fours: u32 = 0;
+    for k in 0..count {
+        fours = fours | vectors::bytes::gathered(s, 4 * k);
+    }
+    fours == 0
+}
+
+// Whether every byte is 0, looked at one by one.
+fn has_zero_bytes(s: &[u8]) -> bool
     ensures { λ r. ⌜ r ≡ allZero (now (s .entry)) ⌝ }
 {
     let mut gathered: u8 = 0;
@@ -21,6 +35,15 @@ pub fn is_zero(s: &[u8]) -> bool
         gathered = gathered | s[k];
     }
     gathered == 0
+}
+
+// Whether every byte is 0: four at a time, and then those that are left.
+pub fn is_zero(s: &[u8]) -> bool
+    ensures { λ r. ⌜ r ≡ allZero (now (s .entry)) ⌝ }
+{
+    let n = s.len() / 4;
+    let at = 4 * n;
+    has_zero_fours(s, n) & has_zero_bytes(&s[at..])
 }
 
 // Whether a slot is free. One that is in use shows it by its first byte. The callers hand over a whole slot.

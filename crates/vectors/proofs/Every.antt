@@ -1,9 +1,9 @@
 -- Laws of `all`: what it says of each index, and the loop that gathers a test over every index.
-use Prim.Native.Nat.{ℕ, zero, suc, _+_, _≤_, _<_}
-use mathlib.Core.Path.{_≡_, refl, ap, _∙_}
-use mathlib.Core.Bool.{Bool, true, false, _&&_, and-false}
+use Prim.Native.Nat.{ℕ, zero, suc, _+_, _*_, _≤_, _<_}
+use mathlib.Core.Path.{_≡_, refl, sym, ap, ap₂, _∙_}
+use mathlib.Core.Bool.{Bool, true, false, _&&_, and-false, and-true, and-assoc}
 use mathlib.Core.Logic.{⊎-elim}
-use native.Mathlib.Nat.{not-suc-le-zero, le-of-suc-le-suc, eq-or-lt-of-le, le-antisymm}
+use native.Mathlib.Nat.{add-zero, add-suc, mul-zero, mul-suc, not-suc-le-zero, le-of-suc-le-suc, eq-or-lt-of-le, le-antisymm}
 use native.Mathlib.Numerals.{add-one}
 use native.Mathlib.Omega.{arith}
 use Rattle.vectors.specs.Vectors.{all}
@@ -33,6 +33,25 @@ module _ (test : ℕ → Bool) where
   all-fails zero k h e = absurd (not-suc-le-zero h)
   all-fails (suc n) k h e =
       ⊎-elim (λ same. rw (← same, e) (and-false (all k test))) (λ less. rw (all-fails n k less e)) (eq-or-lt-of-le (le-of-suc-le-suc h))
+
+-- two tests that agree below n
+pub all-same : (n : ℕ) (one other : ℕ → Bool) → ((k : ℕ) → k < n → one k ≡ other k) → all n one ≡ all n other
+unfolding all
+all-same zero one other each = refl
+all-same (suc n) one other each = ap₂ _&&_ (all-same n one other (λ k h. each k (omega arith))) (each n (omega arith))
+
+-- all of two parts, and all of n parts of w
+pub all-split : (a b : ℕ) (test : ℕ → Bool) → all (a + b) test ≡ (all a test && all b (λ k. test (a + k)))
+unfolding all
+all-split a zero test = rw add-zero (sym (and-true (all a test)))
+all-split a (suc b) test =
+    rw add-suc (ap (λ (t : Bool). t && test (a + b)) (all-split a b test) ∙ and-assoc (all a test) (all b (λ k. test (a + k))) (test (a + b)))
+
+pub all-parts : (w n : ℕ) (test : ℕ → Bool) → all n (λ k. all w (λ j. test (w * k + j))) ≡ all (w * n) test
+unfolding all
+all-parts w zero test = rw mul-zero
+all-parts w (suc n) test =
+    rw mul-suc (ap (λ (t : Bool). t && all w (λ j. test (w * n + j))) (all-parts w n test) ∙ sym (all-split (w * n) w test))
 
 -- the loop: after k turns the test is gathered over the first k indices
 pub record Gathered (n : ℕ) (test : ℕ → Bool) (k : ℕ) (ok : Bool) : Type 0 where

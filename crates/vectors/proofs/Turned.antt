@@ -1,12 +1,17 @@
 -- Laws of turned numbers, over the base: turned twice, read low byte first, and written so.
 use Prim.Native.Nat.{ℕ, zero, suc, _+_, _*_, _/_, _%_, _^_, _<_}
 use mathlib.Core.Path.{_≡_, refl, sym, ap, ap₂, _∙_}
+use mathlib.Core.Bool.{Bool, _&&_}
 use mathlib.Core.List.{List, [], _∷_, _++_, append-assoc, append-nil}
 use native.Mathlib.Nat.{add-zero, add-suc, mul-assoc, mul-one, pow-suc, div-add-mod', div-lt-iff-lt-mul, mod-lt, mod-eq-of-lt}
+use native.Mathlib.Decide.{ℕ-discrete}
 use native.Mathlib.Omega.{arith}
 use lib.Arith.{digits-lt, digits-div, digits-mod}
+use lib.Dec.{eqb}
 use lib.ListN.{getD}
 use lib.Seq.{sets}
+use borrow.Author.Tests.{ne-eqb}
+use Rattle.vectors.specs.Vectors.{all}
 use Rattle.vectors.specs.Bytes.{numberAt, bytesOf}
 use Rattle.vectors.specs.Turned.{turnedBy, turned, turnedFour, turnedEight}
 use Rattle.vectors.proofs.Numbers.{length-bytesOf, sets-then}
@@ -120,3 +125,33 @@ two-written x h =
 pub one-byte : (s : List ℕ) (i : ℕ) → getD s i 0 ≡ numberAt 1 s i
 unfolding numberAt
 one-byte s i = rw add-zero (omega arith)
+
+-- ---- zeros
+
+-- a number is 0 where each of its bytes is
+digits-zero : (high low : ℕ) → eqb (high * 256 + low) 0 ≡ (eqb high 0 && eqb low 0)
+digits-zero high low =
+    elim (ℕ-discrete high 0) [
+      | yes none ↦ let alone : 0 * 256 + low ≡ low = omega arith in rw (none, alone)
+      | no some ↦ rw (ne-eqb high 0 some) (ne-eqb (high * 256 + low) 0 (λ e. some (omega arith)))
+    ]
+
+zero-number : (w : ℕ) (s : List ℕ) (i : ℕ) → eqb (numberAt w s i) 0 ≡ all w (λ k. eqb (getD s (i + k) 0) 0)
+unfolding numberAt all
+zero-number zero s i = refl
+zero-number (suc w) s i =
+    digits-zero (numberAt w s i) (getD s (i + w) 0) ∙ ap (λ (t : Bool). t && eqb (getD s (i + w) 0) 0) (zero-number w s i)
+
+turned-zero : turnedFour 0 ≡ 0
+unfolding turnedBy
+turned-zero = refl
+
+pub four-gathered : (s : List ℕ) (i x : ℕ) → x < 4294967296 → turnedFour x ≡ numberAt 4 s i → eqb x 0 ≡ all 4 (λ k. eqb (getD s (i + k) 0) 0)
+four-gathered s i x h e = same ∙ ap (λ (n : ℕ). eqb n 0) e ∙ zero-number 4 s i
+  where
+    same : eqb x 0 ≡ eqb (turnedFour x) 0
+    same =
+        elim (ℕ-discrete x 0) [
+          | yes none ↦ rw (none, turned-zero)
+          | no some ↦ ne-eqb x 0 some ∙ sym (ne-eqb (turnedFour x) 0 (λ z. some (sym (four-turn .back x h) ∙ ap turnedFour z ∙ turned-zero)))
+        ]

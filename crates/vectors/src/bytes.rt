@@ -1,15 +1,17 @@
 // Numbers as bytes, most significant byte first.
 use super::turning::low_first;
 use super::turning::low_first_eight;
+use super::turning::low_first_four;
 use super::turning::put_low_first;
 use super::turning::put_low_first_eight;
 use super::turning::turn;
 use super::turning::turn_eight;
 ghost use mathlib.Core.Path.{_≡_};
 ghost use Prim.Native.Nat.{_+_, _*_, _≤_};
-ghost use lib.ListN.{length, take};
+ghost use lib.Dec.{eqb};
+ghost use lib.ListN.{length, getD, take};
 ghost use lib.Seq.{sets};
-ghost use Rattle.vectors.specs.Vectors.{vector};
+ghost use Rattle.vectors.specs.Vectors.{all, vector};
 ghost use Rattle.vectors.specs.Bytes.{numberAt, bytesOf, fieldsOf};
 
 // The number of two bytes that stands at i. The callers have found the place to be there.
@@ -50,6 +52,14 @@ pub fn wide_fields(s: &[u8], i: usize, n: usize) -> [u64; 16]
         v[k] = wide_field(s, i + 8 * k);
     }
     v
+}
+
+// Four bytes from place i on in one number, which is 0 where each of them is. The callers have found them to be there.
+pub fn gathered(s: &[u8], i: usize) -> u32
+    requires { ⌜ i + 4 ≤ length (now s) ⌝ }
+    ensures { λ r. ⌜ eqb r 0 ≡ all 4 (λ k. eqb (getD (now (s .entry)) (i + k) 0) 0) ⌝ }
+{
+    low_first_four(s, i)
 }
 
 // The number x goes to place i, in two bytes. The callers have found room there.

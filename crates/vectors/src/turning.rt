@@ -51,7 +51,7 @@ pub fn low_first(s: &[u8], i: usize) -> u16
 }
 
 // The number of four bytes at i, turned.
-fn low_first_four(s: &[u8], i: usize) -> u32
+pub fn low_first_four(s: &[u8], i: usize) -> u32
     requires { ⌜ i + 4 ≤ length (now s) ⌝ }
     ensures { λ r. ⌜ turnedFour r ≡ numberAt 4 (now (s .entry)) i ⌝ }
 {

@@ -1,51 +1,42 @@
 -- `is_zero` meets its contract.
-use Prim.Native.Nat.{_-_}
-use denote.Ref.{now}
-use lib.Dec.{eqb}
-use lib.ListN.{length, getD}
-use Rattle.vectors.proofs.Every.{Gathered, gathered-none, gathered-more, gathered-all}
-use Rattle.shelf.specs.Shelf.{allZero}
-use Rattle.vectors.proofs.Tests.{or-is-zero}
+use mathlib.Core.Bool.{_&&_}
+use mathlib.Core.Path.{sym, _∙_}
+use native.Mathlib.Omega.{arith}
+use Rattle.shelf.proofs.Zeros.{all-zero-parts}
 use borrow.Author.Needs.{needs}
 use Rattle.shelf.proofs.is_zero.Statement.{statement}
 use Rattle.shelf.proofs.is_zero.Tie as tie
 
-abbrev Inv-loop : tie.InvT-loop
-Inv-loop s gathered₀ k₀ k-end gathered k = Gathered (length s) (λ j. eqb (getD s j 0) 0) k (eqb gathered 0)
+mul-at : tie.Need-mul-at
+mul-at c = search needs
 
-abbrev μ-loop : tie.MeasureT-loop
-μ-loop s gathered₀ k₀ k-end gathered k = length s - k
+has-zero-fours-requires : tie.Need-has-zero-fours-requires
+has-zero-fours-requires c κs = search needs
 
-loop-holds : tie.Need-loop-holds Inv-loop μ-loop
-loop-holds c = gathered-none _ _
+sub-has-zero-bytes : tie.Need-sub-has-zero-bytes
+sub-has-zero-bytes c = search needs
 
-shared-slice-read-gathered : tie.Need-shared-slice-read-gathered Inv-loop μ-loop
-shared-slice-read-gathered c = search needs
+part-has-zero-bytes-start : tie.Need-part-has-zero-bytes-start
+part-has-zero-bytes-start c = search needs
 
-add-k : tie.Need-add-k Inv-loop μ-loop
-add-k c = search needs
+part-has-zero-bytes-end : tie.Need-part-has-zero-bytes-end
+part-has-zero-bytes-end c = search needs
 
-loop-less : tie.Need-loop-less Inv-loop μ-loop
-loop-less c = search needs
+has-zero-bytes-requires : tie.Need-has-zero-bytes-requires
+has-zero-bytes-requires c κs = search needs
 
-loop-again : tie.Need-loop-again Inv-loop μ-loop
-loop-again c = let turn = c .before in
-    let at = turn .before in
-    gathered-more _ _ _ _ _ (at .loop .inv) (turn .loop-test .taken) (or-is-zero (at .loop .gathered) (getD (now (at .before .args .s)) (at .loop .k) 0))
-
-returns : tie.Need-returns Inv-loop μ-loop
-unfolding allZero
-returns c = gathered-all _ _ _ _ (c .before .loop .inv) (c .loop-test .left)
+returns : tie.Need-returns
+returns c = let fours = c .before .before in
+    (λ i. fours .has-zero-fours .ensures i && c .has-zero-bytes .ensures i) ∙ sym (all-zero-parts _ _ (omega arith))
 
 pub is-zero-spec : {M : Type 1} → statement M
 is-zero-spec =
     tie.close
     (tie.spec
-    Inv-loop
-    μ-loop
-    loop-holds
-    shared-slice-read-gathered
-    add-k
-    loop-less
-    loop-again
+    mul-at
+    has-zero-fours-requires
+    sub-has-zero-bytes
+    part-has-zero-bytes-start
+    part-has-zero-bytes-end
+    has-zero-bytes-requires
     returns)

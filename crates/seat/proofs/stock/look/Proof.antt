@@ -13,7 +13,7 @@ use Rattle.packet.specs.Reading.{readOf}
 use Rattle.packet.proofs.Told.{Told, told}
 use Rattle.seat.specs.Stock.{packetIn, packetAt}
 use Rattle.seat.specs.Survey.{passesBeside}
-use Rattle.seat.proofs.Beside.{passed-is-in-window}
+use Rattle.seat.proofs.Beside.{passed-is-in-window, counted-length}
 use Rattle.seat.proofs.Looked.{slot-is-bad, refused-is-bad, sound-where-passed, packet-is-counted}
 use borrow.Author.Needs.{needs}
 use Rattle.seat.proofs.stock.look.Statement.{statement}
@@ -34,13 +34,10 @@ passed : (c : tie.Else1)
     → let told-case = c .before .before .before .before .before .before in
     let read = told-case .before .before .before in
     let start = read .before .before .before .before in
-    passesBeside (start .args .seat) (start .args .stock .marks) (told-case .before .answer .given .0 .0) (read .read .result .past) ≡ true
+    passesBeside (start .args .seat) (now (start .args .marks)) (told-case .before .answer .given .0 .0) (read .read .result .past) ≡ true
 passed c = sym (c .before .passes-beside .ensures) ∙ not-false _ (c .if1 .left)
 
--- the words are 16, and the packet's counts are counts
-long : (c : tie.Start) → length (c .args .stock .marks) ≡ 16
-long c = search needs
-
+-- the packet's counts are counts
 counts : (c : tie.After-past) (k : ℕ) → let read = c .before .before .before .before .before in Fits w16 (getD (read .read .result .past) k 0)
 counts c k = search needs
 
@@ -49,7 +46,7 @@ slot-requires c κs = search needs
 
 packet-in-requires : tie.Need-packet-in-requires
 packet-in-requires c κs = let start = c .before .before in
-    ap length (c .slot .ensures) ∙ length-slotAt _ _ (start .pre .0)
+    ap length (c .slot .ensures) ∙ length-slotAt _ _ (start .pre .there)
 
 read-requires : tie.Need-read-requires
 read-requires c κs = search needs
@@ -64,7 +61,10 @@ enum-known-answer : tie.Need-enum-known-answer
 enum-known-answer c = search needs
 
 passes-beside-requires : tie.Need-passes-beside-requires
-passes-beside-requires c κs = let t = good (c .before .before .before .before) in (t .sender-low, omega arith)
+passes-beside-requires c κs = let told-case = c .before .before .before .before in
+    let start = told-case .before .before .before .before .before .before .before in
+    let t = good told-case in
+    (t .sender-low, omega arith, start .pre .own-low, start .pre .own-high)
 
 unsound-requires-2 : tie.Need-unsound-requires-2
 unsound-requires-2 c κs = search needs
@@ -73,34 +73,40 @@ returns : tie.Need-returns
 returns c = let beside = c .before .before in
     let told-case = beside .before .before .before .before .before in
     let read = told-case .before .before .before in
-    let start = read .before .before .before .before in
-    slot-is-bad _ _ _ _ (c .unsound2 .ensures)
-    (sound-where-passed _ _ _ _ (start .pre .2) (start .pre .3) _ (reading read) (start .pre .1) _ (told-case .before .answer .given .1)
-    ∙ sym (beside .passes-beside .ensures) ∙ not-true _ (c .before .if1 .taken))
+    let start = read .before .before .before .before in (
+      start .pre .long,
+      slot-is-bad _ _ _ _ (c .unsound2 .ensures)
+          (sound-where-passed _ _ _ _ (start .pre .sound) (start .pre .looked) _ (reading read) (start .pre .used) _ (told-case .before .answer .given .1)
+          ∙ sym (beside .passes-beside .ensures) ∙ not-true _ (c .before .if1 .taken)),
+    )
 
 count-in-requires : tie.Need-count-in-requires
-count-in-requires c κs = let beside = c .before in
+count-in-requires c κs = let beside = c .before .before in
     let t = good (beside .before .before .before .before .before) in
-    let within = passed-is-in-window _ _ _ _ (passed c) in
+    let within = passed-is-in-window _ _ _ _ (passed (c .before)) in
     (t .sender-low, omega arith, within .0, within .1)
 
 returns-2 : tie.Need-returns-2
 returns-2 c = let told-case = c .before in
     let read = told-case .before .before in
-    let start = read .before .before .before .before in
-    slot-is-bad _ _ _ _ (c .unsound .ensures)
-    (refused-is-bad _ _ _ _ (start .pre .2) (start .pre .3) _ (reading read) (start .pre .1) (told-case .enum-told .given .1))
+    let start = read .before .before .before .before in (
+      start .pre .long,
+      slot-is-bad _ _ _ _ (c .unsound .ensures)
+          (refused-is-bad _ _ _ _ (start .pre .sound) (start .pre .looked) _ (reading read) (start .pre .used) (told-case .enum-told .given .1)),
+    )
 
 returns-3 : tie.Need-returns-3
-returns-3 c = let beside = c .before .before in
+returns-3 c = let beside = c .before .before .before in
     let told-case = beside .before .before .before .before .before in
     let read = told-case .before .before .before in
     let start = read .before .before .before .before in
     let t = good told-case in
     let heading = told-case .before .answer .given .0 .0 in
-    let fits = counts (beside .before .before .before) (heading .sender .0 - 1) in
-    packet-is-counted _ _ _ _ (start .pre .2) (start .pre .3) _ (reading read) (start .pre .1) _ (told-case .before .answer .given .1)
-    (passed (c .before)) _ (c .count-in .ensures) (long start) (omega arith)
+    let fits = counts (beside .before .before .before) (heading .sender .0 - 1) in (
+      counted-length _ _ _ _ _ _ _ (c .count-in .ensures) (start .pre .long),
+      packet-is-counted _ _ _ _ (start .pre .sound) (start .pre .looked) _ (reading read) (start .pre .used) _ (told-case .before .answer .given .1)
+          (passed (c .before .before)) _ (c .count-in .ensures) (start .pre .long) (omega arith),
+    )
 
 pub look-spec : {M : Type 1} → statement M
 look-spec =

@@ -1,6 +1,8 @@
 -- `look_over` meets its contract.
 use mathlib.Core.Path.{refl, sym, _∙_}
 use borrow.Author.Tests.{not-true, not-false}
+use native.Mathlib.Omega.{arith}
+use Rattle.seat.proofs.Sound.{sound-says}
 use Rattle.seat.proofs.LookedOver.{unsound-state, broken-slots, surveyed-shelf}
 use borrow.Author.Needs.{needs}
 use Rattle.seat.proofs.stock.look_over.Statement.{statement}
@@ -21,7 +23,9 @@ returns-2 c = let whole = c .before in
     broken-slots _ _ _ refl (sym (passed .before .is-sound .ensures) ∙ not-false _ (passed .if1 .left)) (sym (whole .has-whole-slots .ensures) ∙ not-true _ (c .if2 .taken))
 
 survey-requires : tie.Need-survey-requires
-survey-requires c κs = search needs
+survey-requires c κs = let passed = c .before .before in
+    let sound = sound-says _ (sym (passed .before .is-sound .ensures) ∙ not-false _ (passed .if1 .left)) in
+    (sound .own-low, omega arith)
 
 returns-3 : tie.Need-returns-3
 returns-3 c = let whole = c .before .before in

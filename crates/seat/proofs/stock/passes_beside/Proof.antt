@@ -1,11 +1,31 @@
 -- `passes_beside` meets its contract.
+use Prim.Native.Nat.{ℕ, _+_, _-_}
+use mathlib.Core.Path.{refl, ap}
+use lib.Dec.{ltb}
+use lib.ListN.{getD}
+use Rattle.window.specs.declared.Window.{Window}
 use Rattle.seat.proofs.Beside.{passes-by-tests}
 use borrow.Author.Needs.{needs}
 use Rattle.seat.proofs.stock.passes_beside.Statement.{statement}
 use Rattle.seat.proofs.stock.passes_beside.Tie as tie
 
-entry-of-requires : tie.Need-entry-of-requires
-entry-of-requires c κs = search needs
+sub-at : tie.Need-sub-at
+sub-at c = search needs
+
+cast-at : tie.Need-cast-at
+cast-at c = search needs
+
+sub-own : tie.Need-sub-own
+sub-own c = search needs
+
+cast-own : tie.Need-cast-own
+cast-own c = search needs
+
+mul-above : tie.Need-mul-above
+mul-above c = search needs
+
+array-read-above : tie.Need-array-read-above
+array-read-above c = search needs
 
 window-with-requires : tie.Need-window-with-requires
 window-with-requires c κs = search needs
@@ -13,28 +33,50 @@ window-with-requires c κs = search needs
 holds-requires : tie.Need-holds-requires
 holds-requires c κs = search needs
 
-is-above-own-count-requires : tie.Need-is-above-own-count-requires
-is-above-own-count-requires c κs = search needs
+own-count-requires : tie.Need-own-count-requires
+own-count-requires c κs = search needs
 
-is-too-far-ahead-requires : tie.Need-is-too-far-ahead-requires
-is-too-far-ahead-requires c κs = search needs
+mul-above-2 : tie.Need-mul-above-2
+mul-above-2 c = search needs
+
+array-read-above-2 : tie.Need-array-read-above-2
+array-read-above-2 c = search needs
+
+cast-far : tie.Need-cast-far
+cast-far c = search needs
+
+add-far : tie.Need-add-far
+add-far c = search needs
+
+cast-far-2 : tie.Need-cast-far-2
+cast-far-2 c = search needs
 
 returns : tie.Need-returns
-returns c = let far = c .before .before in
-    let above = far .before in
-    let held = above .before in
+returns c = let counted = c .before .before .before .before in
+    let held = counted .before in
     let window = held .before in
-    let numbered = window .before in
-    passes-by-tests _ _ _ _ _ _ _ _ _ (numbered .entry-of .ensures) (window .window-with .ensures) (held .holds .ensures)
-    (above .is-above-own-count .ensures) (far .is-too-far-ahead .ensures)
+    let start = window .before .before .before .before in
+    let a = start .args in
+    passes-by-tests _ _ _ _ _ _ _ _ _ refl (window .window-with .ensures) (held .holds .ensures)
+    (ap (λ (n : ℕ). ltb n (getD (a .t4) (a .seat .own .0 - 1) 0)) (counted .own-count .ensures))
+    (ap (λ (w : Window). ltb (w .run + 64) (getD (a .t4) (a .heading .sender .0 - 1) 0)) (window .window-with .ensures))
 
 pub passes-beside-spec : {M : Type 1} → statement M
 passes-beside-spec =
     tie.close
     (tie.spec
-    entry-of-requires
+    sub-at
+    cast-at
+    sub-own
+    cast-own
+    mul-above
+    array-read-above
     window-with-requires
     holds-requires
-    is-above-own-count-requires
-    is-too-far-ahead-requires
+    own-count-requires
+    mul-above-2
+    array-read-above-2
+    cast-far
+    add-far
+    cast-far-2
     returns)
