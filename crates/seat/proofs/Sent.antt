@@ -9,12 +9,22 @@ use lib.ListN.{getD, length-set}
 use lib.Seq.{getD-set-same, getD-set-other}
 use Rattle.vectors.specs.Vectors.{entry, Counts}
 use Rattle.packet.specs.declared.Kind.{Kind}
+use Rattle.packet.specs.declared.Kind.the-variants.{Ordinary, Causal}
 use Rattle.seat.specs.State.{ownCount, windowAt, soundState, Held}
-use Rattle.seat.specs.Sending.{pastSent, barrierAfter, sentSeat}
+use Rattle.seat.specs.HandingOver.{raisedBy}
+use Rattle.seat.specs.Sending.{barrierSent, pastSent, barrierAfter, sentSeat}
 use Rattle.seat.specs.declared.Seat.{Seat}
 use Rattle.seat.proofs.Sound.{sound-says}
 
 -- ---- part by part
+
+pub raised-is-sent : (seat : Seat) (kind : Kind) → raisedBy kind (seat .past) (seat .barrier) ≡ barrierSent seat kind
+raised-is-sent seat Ordinary = refl
+raised-is-sent seat Causal = refl
+
+pub raised-is-after : (seat : Seat) (kind : Kind) (past : List ℕ) → past ≡ pastSent seat → raisedBy kind past (seat .barrier) ≡ barrierAfter seat kind
+raised-is-after seat Ordinary past is-past = refl
+raised-is-after seat Causal past is-past = is-past
 
 module _ (seat : Seat) (kind : Kind) where
   -- the state that is built of its parts

@@ -1,6 +1,7 @@
 // Sending, lines 1 to 4 of document 000, section 3.2: what the packet carries, and the state after it.
 use super::Seat;
 use super::Wish;
+use super::state::raised_by;
 use packet::Kind;
 ghost use mathlib.Core.Path.{_≡_};
 ghost use Prim.Native.Nat.{_≤_, _<_};
@@ -32,10 +33,9 @@ pub fn own_count(seat: Seat) -> u16
 pub fn barrier_sent(seat: Seat, kind: Kind) -> [u16; 16]
     ensures { λ r. ⌜ r ≡ barrierSent seat kind ⌝ }
 {
-    match kind {
-        Kind::Ordinary => seat.barrier,
-        Kind::Causal => seat.past,
-    }
+    let past = seat.past;
+    let barrier = seat.barrier;
+    raised_by(kind, past, barrier)
 }
 
 // Line 2: past[self] rises by 1. The caller has found the own number to be in range, and room for one more edit.
@@ -54,10 +54,8 @@ fn barrier_after(seat: Seat, kind: Kind, past: [u16; 16]) -> [u16; 16]
     requires { ⌜ past ≡ pastSent seat ⌝ }
     ensures { λ r. ⌜ r ≡ barrierAfter seat kind ⌝ }
 {
-    match kind {
-        Kind::Ordinary => seat.barrier,
-        Kind::Causal => past,
-    }
+    let before = seat.barrier;
+    raised_by(kind, past, before)
 }
 
 // The state after sending, with the new past.
@@ -66,8 +64,15 @@ pub fn after_sending(seat: Seat, kind: Kind, past: [u16; 16]) -> Seat
     ensures { λ r. ⌜ r ≡ sentSeat seat kind ⌝ }
 {
     let barrier = barrier_after(seat, kind, past);
-    let mut next = seat;
-    next.past = past;
-    next.barrier = barrier;
-    next
+    let own = seat.own;
+    let run = seat.run;
+    let ahead = seat.ahead;
+    Seat {
+        n: seat.n,
+        own,
+        past,
+        barrier,
+        run,
+        ahead,
+    }
 }

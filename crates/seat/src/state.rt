@@ -36,19 +36,6 @@ fn has_sound_windows(seat: Seat) -> bool
     ok
 }
 
-// The same. Where no number is marked, run alone is looked at.
-fn has_sound_counts(seat: Seat) -> bool
-    ensures { λ r. ⌜ r ≡ soundWindows seat ⌝ }
-{
-    let past = seat.past;
-    let reached = seat.run;
-    let words = seat.ahead;
-    if is_zero(words) {
-        return is_within(reached, past);
-    }
-    has_sound_windows(seat)
-}
-
 // Whether the state is sound. That barrier, run and ahead are 0 above n follows from past being 0 there.
 pub fn is_sound(seat: Seat) -> bool
     ensures { λ r. ⌜ r ≡ soundState seat ⌝ }
@@ -59,7 +46,16 @@ pub fn is_sound(seat: Seat) -> bool
     let seats = seat.n as usize;
     let past = seat.past;
     let barrier = seat.barrier;
-    is_zero_above(seats, past) & is_within(barrier, past) & has_sound_counts(seat)
+    if !(is_zero_above(seats, past) & is_within(barrier, past)) {
+        return false;
+    }
+    // Where no number is marked, run alone is looked at.
+    let reached = seat.run;
+    let words = seat.ahead;
+    if is_zero(words) {
+        return is_within(reached, past);
+    }
+    has_sound_windows(seat)
 }
 
 // Line 5: every edit that the packet waits for is handed over here.
@@ -71,7 +67,7 @@ pub fn is_ready(seat: Seat, barrier: [u16; 16]) -> bool
 }
 
 // What raises barrier: past if the edit is causal, its barrier if ordinary.
-fn raised_by(kind: Kind, past: [u16; 16], barrier: [u16; 16]) -> [u16; 16]
+pub fn raised_by(kind: Kind, past: [u16; 16], barrier: [u16; 16]) -> [u16; 16]
     ensures { λ r. ⌜ r ≡ raisedBy kind past barrier ⌝ }
 {
     match kind {

@@ -2,7 +2,7 @@
 use Prim.Native.Nat.{ℕ, _≤_, _<_, max}
 use mathlib.Core.Path.{_≡_, refl, sym, ap, _∙_}
 use mathlib.Core.List.{List}
-use mathlib.Core.Bool.{true, _&&_, or-true}
+use mathlib.Core.Bool.{true, _&&_, _||_, or-true}
 use native.Mathlib.Decide.{ℕ-discrete, decLt}
 use native.Mathlib.Omega.{arith}
 use lib.Bits.{bitOr, or-zero-l, or-add-and, and-le-r}
@@ -11,7 +11,7 @@ use lib.ListN.{length, getD}
 use lib.Seq.{ext-getD}
 use borrow.Author.Tests.{lt-ltb, le-ltb, leb-true, eqb-true, le-leb, eq-eqb, ne-eqb}
 use Rattle.vectors.specs.Vectors.{all, vector, within, same, zeroAbove, maxes}
-use Rattle.vectors.proofs.Every.{all-at, all-of}
+use Rattle.vectors.proofs.Every.{all-at, all-of, Gathered}
 use Rattle.vectors.proofs.Vector.{length-vector, vector-below, vector-above}
 
 -- two numbers gathered are 0 exactly where both are
@@ -58,6 +58,14 @@ module _ (n : ℕ) (v : List ℕ) where
         | yes less ↦ rw (lt-ltb k n less)
         | no more ↦ rw (eq-eqb (getD v k 0) 0 (each k (omega arith) b)) (or-true (ltb k n))
       ])
+
+-- the loop: entries from n on are gathered
+module _ (n : ℕ) (v : List ℕ) (h : n ≤ 16) where
+  pub zero-above-none-yet : Gathered 16 (λ k. ltb k n || eqb (getD v k 0) 0) n true
+  zero-above-none-yet = record { low = h; is = sym (all-of (λ k. ltb k n || eqb (getD v k 0) 0) n (λ k less. rw (lt-ltb k n less))) }
+
+  pub zero-above-more : (k above : ℕ) → n ≤ k → eqb (bitOr above (getD v k 0)) 0 ≡ (eqb above 0 && (ltb k n || eqb (getD v k 0) 0))
+  zero-above-more k above from = or-is-zero above (getD v k 0) ∙ rw (le-ltb k n from)
 
 pub zero-above-vector : (n : ℕ) (f : ℕ → ℕ) → zeroAbove n (vector n f) ≡ true
 zero-above-vector n f = zero-above-of n (vector n f) (vector-above n f)

@@ -4,7 +4,7 @@ pub mod bytes;
 mod turning;
 
 ghost use mathlib.Core.Path.{_≡_};
-ghost use Prim.Native.Nat.{max};
+ghost use Prim.Native.Nat.{_≤_, max};
 ghost use Rattle.vectors.specs.Vectors.{within, same, zeroAbove, maxes};
 
 // Whether every entry of a is at most b's.
@@ -29,15 +29,16 @@ pub fn is_same(a: [u16; 16], b: [u16; 16]) -> bool
     ok
 }
 
-// Whether every entry above n is 0.
+// Whether every entry above n is 0. The callers have found n to be in range.
 pub fn is_zero_above(n: usize, v: [u16; 16]) -> bool
+    requires { ⌜ n ≤ 16 ⌝ }
     ensures { λ r. ⌜ r ≡ zeroAbove n v ⌝ }
 {
-    let mut ok = true;
-    for k in 0..16 {
-        ok = ok & ((k < n) | (v[k] == 0));
+    let mut above: u16 = 0;
+    for k in n..16 {
+        above = above | v[k];
     }
-    ok
+    above == 0
 }
 
 // Whether every word is 0.

@@ -32,10 +32,10 @@ cast-seats : tie.Need-cast-seats
 cast-seats c = search needs
 
 is-zero-above-requires : tie.Need-is-zero-above-requires
-is-zero-above-requires c κs = search needs
+is-zero-above-requires c κs = let r = in-range _ (in-range-holds (c .before .before .before .before)) in omega arith
 
 is-zero-above-requires-2 : tie.Need-is-zero-above-requires-2
-is-zero-above-requires-2 c κs = search needs
+is-zero-above-requires-2 c κs = let r = in-range _ (in-range-holds (c .before .before .before .before .before)) in omega arith
 
 returns-3 : tie.Need-returns-3
 unfolding writable

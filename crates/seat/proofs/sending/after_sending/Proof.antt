@@ -8,7 +8,9 @@ barrier-after-requires : tie.Need-barrier-after-requires
 barrier-after-requires c κs = search needs
 
 returns : tie.Need-returns
-returns c = let a = c .before .args in sent-seat-is (a .seat) (a .kind) _ _ (c .before .pre) (c .barrier-after .ensures)
+returns c = let after = c .before .before .before in
+    let a = after .before .args in
+    sent-seat-is (a .seat) (a .kind) _ _ (after .before .pre) (after .barrier-after .ensures)
 
 pub after-sending-spec : {M : Type 1} → statement M
 after-sending-spec = tie.close (tie.spec barrier-after-requires returns)
