@@ -3,14 +3,15 @@ use Prim.Native.Nat.{ℕ, _+_, _*_, _-_, _/_, _%_, _≤_, _<_, _^_}
 use mathlib.Core.Path.{_≡_, refl, sym, ap, ap₂, _∙_}
 use mathlib.Core.List.{List, [], _∷_, _++_, append-assoc, append-nil}
 use native.Mathlib.Omega.{arith}
-use lib.ListN.{length, getD, take, drop, length-append}
-use lib.Seq.{take-all, take-add, take-suc}
+use lib.ListN.{length, getD, take, drop, length-append, length-drop}
+use lib.Seq.{sets, sets-eq, take-all, take-add, take-suc, drop-drop}
 use Rattle.answers.specs.Answers.{seatNo}
+use Rattle.answers.specs.declared.SeatNo.{SeatNo}
 use Rattle.vectors.specs.Vectors.{vector, table}
 use Rattle.vectors.specs.Bytes.{fieldsOf, Bytes}
 use Rattle.vectors.proofs.Vector.{length-vector, is-vector, take-vector}
-use Rattle.vectors.proofs.Numbers.{field-written, fields-read}
-use Rattle.tautrobin.specs.Image.{imageSize, pastAt, barrierAt, runAt, aheadAt, fieldsAt, decoded, numbersByte, encoded, Numbered}
+use Rattle.vectors.proofs.Numbers.{length-fieldsOf, sets-then, field-written, fields-read}
+use Rattle.tautrobin.specs.Image.{imageSize, pastAt, barrierAt, runAt, aheadAt, fieldsAt, decoded, numbersByte, encoded, Recounted, Numbered}
 use Rattle.seat.specs.State.{Held}
 use Rattle.seat.specs.declared.Seat.{Seat}
 use Rattle.tautrobin.proofs.ImageParts.{Long, parts}
@@ -71,6 +72,42 @@ module _ (image : List ℕ) (right : length image ≡ imageSize) (bytes : Bytes 
       let first = bytes 0 in
       let same : (getD image 0 0 / 16 + 1 - 1) * 16 + (getD image 0 0 % 16 + 1 - 1) ≡ getD image 0 0 = omega arith in
       rw same (sym (take-suc image 0 0 (omega arith)))
+
+  -- what stands after past and barrier were put down over the state's own
+  module _ (seat : Seat) (same : Recounted seat (decoded image)) (long-past : length (seat .past) ≡ 16) (long-barrier : length (seat .barrier) ≡ 16) where
+    numbers-stand : take 1 image ≡ numbersByte seat ∷ []
+    unfolding decoded
+    numbers-stand = sym first-byte ∙ ap₂ (λ (n own : ℕ). ((n - 1) * 16 + (own - 1)) ∷ []) (sym (same .same-seats)) (ap (λ (own : SeatNo). own .0) (sym (same .same-own)))
+
+    windows-stand : drop 65 image ≡ fieldsOf 2 (seat .run) ++ fieldsOf 8 (seat .ahead)
+    unfolding decoded
+    windows-stand =
+        sym (take-all 160 (drop 65 image) (omega (arith, length-drop 65 image)))
+        ∙ take-add 32 128 (drop 65 image)
+        ∙ ap (λ (l : List ℕ). take 32 (drop 65 image) ++ take 128 l) (drop-drop 32 65 image)
+        ∙ sym
+        (ap₂ (λ (a b : List ℕ). a ++ b) (ap (fieldsOf 2) (same .same-run) ∙ fields-again 2 runAt (omega arith))
+        (ap (fieldsOf 8) (same .same-ahead) ∙ fields-again 8 aheadAt (omega arith)))
+
+    pub counts-written : (first second : List ℕ) → first ≡ sets image pastAt (fieldsOf 2 (take 16 (seat .past)))
+        → second ≡ sets first barrierAt (fieldsOf 2 (take 16 (seat .barrier))) → second ≡ encoded seat
+    unfolding encoded
+    counts-written first second is-first is-second =
+        let H = numbersByte seat ∷ [] in
+        let P = fieldsOf 2 (seat .past) in
+        let B = fieldsOf 2 (seat .barrier) in
+        let R = fieldsOf 2 (seat .run) in
+        let A = fieldsOf 8 (seat .ahead) in
+        let p : length P ≡ 32 = length-fieldsOf 2 (seat .past) ∙ ap (λ (k : ℕ). 2 * k) long-past in
+        let b : length B ≡ 32 = length-fieldsOf 2 (seat .barrier) ∙ ap (λ (k : ℕ). 2 * k) long-barrier in
+        let pb : length (P ++ B) ≡ 64 = omega (arith, length-append P B) in
+        rw (is-second, is-first, take-all 16 (seat .past) (omega (arith, long-past)), take-all 16 (seat .barrier) (omega (arith, long-barrier)))
+        (sets-then image pastAt P B barrierAt (omega arith))
+        ∙ sets-eq (P ++ B) image pastAt (omega arith)
+        ∙ ap (λ (n : ℕ). take 1 image ++ (P ++ B) ++ drop (1 + n) image) pb
+        ∙ ap₂ (λ (a c : List ℕ). a ++ (P ++ B) ++ c) numbers-stand windows-stand
+        ∙ ap (λ (l : List ℕ). l ++ (R ++ A)) (sym (append-assoc H P B))
+        ∙ sym (append-assoc (H ++ P ++ B) R A)
 
   pub image-writes-again : encoded (decoded image) ≡ image
   unfolding decoded encoded

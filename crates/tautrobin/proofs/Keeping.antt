@@ -18,7 +18,7 @@ use Rattle.seat.specs.Sending.{sentSeat, seatAfter}
 use Rattle.seat.specs.HandingOver.{handOver}
 use Rattle.seat.specs.Arriving.{shelfAfter}
 use Rattle.seat.specs.Releasing.{shelfAfterRelease}
-use Rattle.tautrobin.specs.Image.{imageSize, encoded, Numbered}
+use Rattle.tautrobin.specs.Image.{imageSize, encoded, Recounted, Numbered}
 use Rattle.tautrobin.specs.Calls.{packed, rewritten, wrongLength, Kept}
 use Rattle.seat.specs.declared.Seat.{Seat}
 use Rattle.seat.specs.declared.Stepped.{Stepped}
@@ -72,15 +72,23 @@ seat-after-is-numbered Shelved next seat a b = b
 seat-after-is-numbered NothingReady next seat a b = b
 seat-after-is-numbered (Refused refusal) next seat a b = b
 
-pub sent-is-numbered : (seat : Seat) (kind : Kind) → Numbered seat → Numbered (sentSeat seat kind)
-unfolding sentSeat
-sent-is-numbered seat kind numbered =
-    record { seats-low = numbered .seats-low; seats-high = numbered .seats-high; own-low = numbered .own-low; own-high = numbered .own-high }
-
 pub handed-is-numbered : (seat : Seat) (heading : Heading) (past barrier : List ℕ) → Numbered seat → Numbered (handOver seat heading past barrier)
 unfolding handOver
 handed-is-numbered seat heading past barrier numbered =
     record { seats-low = numbered .seats-low; seats-high = numbered .seats-high; own-low = numbered .own-low; own-high = numbered .own-high }
+
+-- ---- sending changes past and barrier alone
+
+pub seat-after-recounts : (answer : Answer) (next seat : Seat) → Recounted next seat → Recounted (seatAfter answer next seat) seat
+seat-after-recounts Opened next seat a = record { same-seats = refl; same-own = refl; same-run = refl; same-ahead = refl }
+seat-after-recounts (Done edit) next seat a = a
+seat-after-recounts Shelved next seat a = record { same-seats = refl; same-own = refl; same-run = refl; same-ahead = refl }
+seat-after-recounts NothingReady next seat a = record { same-seats = refl; same-own = refl; same-run = refl; same-ahead = refl }
+seat-after-recounts (Refused refusal) next seat a = record { same-seats = refl; same-own = refl; same-run = refl; same-ahead = refl }
+
+pub sent-recounts : (seat : Seat) (kind : Kind) → Recounted (sentSeat seat kind) seat
+unfolding sentSeat
+sent-recounts seat kind = record { same-seats = refl; same-own = refl; same-run = refl; same-ahead = refl }
 
 -- ---- a step's answer, and its image
 

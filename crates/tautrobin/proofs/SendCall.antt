@@ -8,18 +8,19 @@ use borrow.Author.Tests.{lt-ltb, le-ltb}
 use Rattle.answers.specs.Answers.{bare, report}
 use Rattle.seat.specs.State.{soundState}
 use Rattle.seat.specs.Sending.{kindOf, sentSeat, sendAnswer, Sent}
-use Rattle.tautrobin.specs.Image.{imageSize, decoded, Numbered}
+use Rattle.tautrobin.specs.Image.{imageSize, decoded, Recounted}
 use Rattle.tautrobin.specs.Calls.{Kept, kindMost, wishOf, sendReport, SendCalled}
 use Rattle.seat.specs.declared.Seat.{Seat}
 use Rattle.seat.specs.declared.Stepped.{Stepped}
 use Rattle.seat.specs.declared.Wish.{Wish}
 use Rattle.seat.proofs.SendAnswers.{not-sound-answers-10}
 use Rattle.tautrobin.proofs.Reporting.{packed-bare, refuses, goes-on, none-left, left-alone, stands}
-use Rattle.tautrobin.proofs.Keeping.{right-length, wrong-length, output-left-alone, seat-after-is-numbered, sent-is-numbered, kept-answer, kept-image}
+use Rattle.tautrobin.proofs.Keeping.{right-length, wrong-length, output-left-alone, seat-after-recounts, sent-recounts, kept-answer, kept-image}
 
-pub stepped-send-is-numbered : (body out : List ℕ) (seat : Seat) (wish : Wish) (stepped : Stepped) (after : List ℕ) → Numbered seat → Sent seat wish body out stepped after → Numbered (stepped .seat)
-stepped-send-is-numbered body out seat wish stepped after numbered sent =
-    rw (sent .next) (seat-after-is-numbered (sendAnswer seat body out) (sentSeat seat (kindOf wish)) seat (sent-is-numbered seat (kindOf wish) numbered) numbered)
+pub stepped-send-recounts : (image body out : List ℕ) (seat : Seat) (wish : Wish) (stepped : Stepped) (after : List ℕ) → seat ≡ decoded image
+    → Sent seat wish body out stepped after → Recounted (stepped .seat) (decoded image)
+stepped-send-recounts image body out seat wish stepped after is-seat sent =
+    rw (sent .next, ← is-seat) (seat-after-recounts (sendAnswer seat body out) (sentSeat seat (kindOf wish)) seat (sent-recounts seat (kindOf wish)))
 
 module _ (image : List ℕ) (kind : ℕ) (body out : List ℕ) where
   pub send-wrong-length-is-10 : (length image ≡ imageSize → ⊥) → sendReport image kind body out ≡ bare 10

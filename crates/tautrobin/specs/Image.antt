@@ -1,6 +1,7 @@
 -- The state as it crosses to C: an image of 225 bytes, bit-packed, most significant first (document 01, "For the
 -- package, which is written in C").
 use Prim.Native.Nat.{ℕ, _+_, _*_, _-_, _/_, _%_, _≤_}
+use mathlib.Core.Path.{_≡_}
 use mathlib.Core.List.{List, [], _∷_, _++_}
 use lib.ListN.{getD}
 use Rattle.answers.specs.Answers.{seatNo}
@@ -52,6 +53,13 @@ encoded seat =
     ++ fieldsOf 2 (seat .barrier)
     ++ fieldsOf 2 (seat .run)
     ++ fieldsOf 8 (seat .ahead)
+
+-- The next state is another in past and barrier alone.
+pub record Recounted (next seat : Seat) : Type 0 where
+  pub same-seats : next .n ≡ seat .n
+  pub same-own : next .own ≡ seat .own
+  pub same-run : next .run ≡ seat .run
+  pub same-ahead : next .ahead ≡ seat .ahead
 
 -- n and own number are among the 16 that 4 bits tell apart.
 pub record Numbered (seat : Seat) : Type 0 where

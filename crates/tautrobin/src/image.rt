@@ -7,7 +7,7 @@ use vectors::bytes::put_wide_fields;
 use vectors::bytes::wide_fields;
 ghost use mathlib.Core.Path.{_≡_};
 ghost use lib.ListN.{length, set};
-ghost use Rattle.tautrobin.specs.Image.{imageSize, decoded, encoded, numbersByte, Numbered};
+ghost use Rattle.tautrobin.specs.Image.{imageSize, decoded, encoded, numbersByte, Recounted, Numbered};
 
 pub const IMAGE_SIZE: usize = 225;
 
@@ -47,6 +47,18 @@ fn put_numbers(seat: Seat, image: &mut [u8])
     ensures { λ _. ⌜ now (image .exit) ≡ set (now (image .entry)) 0 (numbersByte seat) ⌝ }
 {
     image[0] = (seat.n - 1) * 16 + (seat.own.0 - 1);
+}
+
+// The image of a state that is another than the image's in past and barrier alone. The caller has found its length to be
+// right.
+pub fn encode_counts(seat: Seat, image: &mut [u8])
+    requires { ⌜ (length (now image) ≡ imageSize) × Recounted seat (decoded (now image)) ⌝ }
+    ensures { λ _. ⌜ now (image .exit) ≡ encoded seat ⌝ }
+{
+    let past = seat.past;
+    let barrier = seat.barrier;
+    put_fields(image, PAST_AT, 16, past);
+    put_fields(image, BARRIER_AT, 16, barrier);
 }
 
 // The image of a state. The callers have found its length to be right, and n and own number to be in range.

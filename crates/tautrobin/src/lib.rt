@@ -6,6 +6,7 @@ use answers::SeatNo;
 use image::IMAGE_SIZE;
 use image::decode;
 use image::encode;
+use image::encode_counts;
 use packet::Header;
 use packet::in_range;
 use seat::Seat;
@@ -16,7 +17,7 @@ ghost use mathlib.Core.Path.{_≡_};
 ghost use Prim.Native.Nat.{_≤_};
 ghost use lib.ListN.{length};
 ghost use Rattle.answers.specs.Answers.{report};
-ghost use Rattle.tautrobin.specs.Image.{imageSize, Numbered};
+ghost use Rattle.tautrobin.specs.Image.{imageSize, decoded, Recounted, Numbered};
 ghost use Rattle.tautrobin.specs.Calls.{packed, wishOf, Kept, OpenCalled, SendCalled, ArriveCalled, ReleaseCalled};
 
 // Refusals that the calls test before the library's step: an answer number, with three zeros.
@@ -66,6 +67,21 @@ fn keep(stepped: Stepped, state: &mut [u8]) -> u64
     pack(told)
 }
 
+// The same, where the next state is another than the image's in past and barrier alone.
+fn keep_counts(stepped: Stepped, state: &mut [u8]) -> u64
+    requires { ⌜ (length (now state) ≡ imageSize) × Recounted (stepped .seat) (decoded (now state)) ⌝ }
+    ensures { λ r. ⌜ Kept stepped (now (state .entry)) r (now (state .exit)) ⌝ }
+{
+    let answer = stepped.answer;
+    let seat = stepped.seat;
+    let told = answer.report();
+    if told.answer <= 1 {
+        encode_counts(seat, state);
+        return pack(told);
+    }
+    pack(told)
+}
+
 // Opens a seat, and zeroes its shelf.
 #[no_mangle]
 pub extern "C" fn tautrobin_open(n: u32, own: u32, state: &mut [u8], shelf: &mut [u8]) -> u64
@@ -105,7 +121,7 @@ pub extern "C" fn tautrobin_send(state: &mut [u8], kind: u32, body: &[u8], out: 
         return NOT_SOUND;
     }
     let sent = seat.send(wish_of(kind), body, out);
-    keep(sent, state)
+    keep_counts(sent, state)
 }
 
 // A packet arrives: it is handed over, put on the shelf, or refused.

@@ -4,7 +4,7 @@ use native.Mathlib.Omega.{arith}
 use denote.Ref.{now}
 use Rattle.seat.specs.State.{soundState}
 use Rattle.tautrobin.specs.Image.{decoded}
-use Rattle.tautrobin.proofs.SendCall.{send-wrong-length-is-10, unsound-send-is-10, no-such-kind-is-22, send-steps, stepped-send-is-numbered, refused-send-call, stepped-send-call}
+use Rattle.tautrobin.proofs.SendCall.{send-wrong-length-is-10, unsound-send-is-10, no-such-kind-is-22, send-steps, stepped-send-recounts, refused-send-call, stepped-send-call}
 use borrow.Author.Needs.{needs}
 use Rattle.tautrobin.proofs.tautrobin_send.Statement.{statement}
 use Rattle.tautrobin.proofs.tautrobin_send.Tie as tie
@@ -44,10 +44,10 @@ wish-of-requires c κs = search needs
 send-requires : tie.Need-send-requires
 send-requires c κs = search needs
 
-keep-requires : tie.Need-keep-requires
-keep-requires c κs = let sent = c .before .before .before in
+keep-counts-requires : tie.Need-keep-counts-requires
+keep-counts-requires c κs = let sent = c .before .before .before in
     let decode = sent .before .before .before .before in
-    (decode .before .before .if1 .left, λ done. stepped-send-is-numbered _ _ _ _ _ _ (decode .decode .ensures .1) (sent .send .ensures))
+    (decode .before .before .if1 .left, stepped-send-recounts _ _ _ _ _ _ _ (decode .decode .ensures .0) (sent .send .ensures))
 
 same-length-3 : tie.Need-same-length-3
 same-length-3 c = search needs
@@ -61,7 +61,7 @@ returns-4 c = let kept = c .before .before in
     let wished = sent .before .before in
     let decode = wished .before .before in
     stepped-send-call _ _ _ _ _ _ _ _ _ _ (decode .decode .ensures .0) (wished .wish-of .ensures)
-    (send-steps _ _ _ _ (decode .before .before .if1 .left) (wished .before .if2 .left)) (sent .send .ensures) (kept .keep .ensures)
+    (send-steps _ _ _ _ (decode .before .before .if1 .left) (wished .before .if2 .left)) (sent .send .ensures) (kept .keep-counts .ensures)
 
 pub tautrobin-send-spec : {M : Type 1} → statement M
 tautrobin-send-spec =
@@ -76,7 +76,7 @@ tautrobin-send-spec =
     returns-3
     wish-of-requires
     send-requires
-    keep-requires
+    keep-counts-requires
     same-length-3
     same-length-4
     returns-4)
