@@ -1,13 +1,13 @@
 -- Laws of the packet in a slot: when there is none, and what it is.
 use Prim.Native.Nat.{ℕ, _+_, _*_, _-_, _%_, _≤_, _<_}
 use mathlib.Core.Path.{_≡_, refl, sym, ap, _∙_}
-use mathlib.Core.Bool.{Bool, true, false, _&&_, and-false}
+use mathlib.Core.Bool.{Bool, true, false, cond, _&&_, and-false}
 use mathlib.Core.List.{List, []}
 use native.Mathlib.Omega.{arith}
 use lib.Dec.{leb, eqb}
 use lib.ListN.{length, getD, take, drop, replicate, List·getD-append}
 use lib.Seq.{getD-drop}
-use borrow.Author.Tests.{eq-eqb, ne-eqb, le-leb, lt-leb, eqb-true}
+use borrow.Author.Tests.{eq-eqb, ne-eqb, le-leb, lt-leb, leb-true, eqb-true}
 use Rattle.vectors.proofs.Every.{and-both}
 use Rattle.packet.specs.Packet.{firstBadPoint}
 use Rattle.packet.proofs.Formed.{formed}
@@ -38,6 +38,30 @@ module _ (slot : List ℕ) where
     packet-stands one short rest =
         let named : namedLength (drop 1 slot) ≡ end - 1 = omega arith in
         rw (eq-eqb (getD slot 0 0) 1 one, le-leb (namedLength (drop 1 slot)) (slotSize - 1) (omega arith), ← is-end, rest, named)
+
+-- a slot whose packet is well formed holds it
+module _ (slot : List ℕ) (well-formed : firstBadPoint (packetIn slot) ≡ 0) where
+  is-held : holdsPacket slot ≡ true
+  unfolding packetIn
+  is-held =
+      elim (holdsPacket slot) as (λ held. firstBadPoint (cond held (take (namedLength (drop 1 slot)) (drop 1 slot)) []) ≡ 0 → held ≡ true) [
+        | true ↦ λ e. refl
+        | false ↦ λ e. let head = formed [] e .head in absurd (omega arith)
+      ] well-formed
+
+  module _ (end : ℕ) (is-end : end ≡ 1 + namedLength (drop 1 slot)) where
+    pub held-is-short : end ≤ slotSize
+    unfolding holdsPacket
+    held-is-short =
+        let ab = and-both (eqb (getD slot 0 0) 1 && leb (namedLength (drop 1 slot)) (slotSize - 1)) (restZero slot (1 + namedLength (drop 1 slot))) is-held in
+        let short : namedLength (drop 1 slot) ≤ slotSize - 1 = leb-true _ _ (and-both (eqb (getD slot 0 0) 1) (leb (namedLength (drop 1 slot)) (slotSize - 1)) (ab .0) .1) in
+        omega arith
+
+    pub held-stands : packetIn slot ≡ take (end - 1) (drop 1 slot)
+    unfolding packetIn
+    held-stands =
+        let named : namedLength (drop 1 slot) ≡ end - 1 = omega arith in
+        rw (is-held, named)
 
 -- ---- well formed packets
 

@@ -15,6 +15,7 @@ ghost use mathlib.Core.Bool.{true, false};
 ghost use Prim.Native.Nat.{_+_, _≤_, _<_};
 ghost use lib.ListN.{length};
 ghost use Rattle.vectors.specs.Vectors.{entry};
+ghost use Rattle.packet.specs.Packet.{firstBadPoint};
 ghost use Rattle.shelf.specs.Shelf.{slotSize};
 ghost use Rattle.seat.specs.Stock.{packetIn, aboveOwnCount, tooFarAhead};
 ghost use Rattle.seat.specs.Survey.{windowWith, markedWith, passesBeside, keyOf, stockOf, Counted, Looked, Looking, Surveyed};
@@ -56,6 +57,17 @@ pub fn packet_in(slot: &[u8]) -> &[u8]
     if !shelf::is_zero(&slot[end..]) {
         return &slot[..0];
     }
+    &slot[1..end]
+}
+
+// The same of a slot whose packet was found well formed: its own fields say where it ends.
+pub fn held_in(slot: &[u8]) -> &[u8]
+    requires { ⌜ (length (now slot) ≡ slotSize) × (firstBadPoint (packetIn (now slot)) ≡ 0) ⌝ }
+    ensures { λ r. ⌜ now r ≡ packetIn (now (slot .entry)) ⌝ }
+{
+    let seats = (slot[1] % 16) as usize + 1;
+    let body = slot[3] as usize;
+    let end = 1 + HEAD_LEN + 4 * seats + body;
     &slot[1..end]
 }
 

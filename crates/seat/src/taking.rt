@@ -5,7 +5,7 @@ use super::arrival::edit_in;
 use super::refuse;
 use super::state::hand_over;
 use super::state::is_barrier_above_past;
-use super::stock::packet_in;
+use super::stock::held_in;
 use answers::Answer;
 use answers::Refusal;
 use packet::HEAD_LEN;
@@ -28,7 +28,7 @@ fn hand_out(
     requires { ⌜ ChosenRead seat (now shelf) i heading past barrier ⌝ }
     ensures { λ r. ⌜ Released seat (now (shelf .entry)) (now (out .entry)) r (now (shelf .exit)) (now (out .exit)) ⌝ }
 {
-    let packet = packet_in(shelf::slot(&*shelf, i));
+    let packet = held_in(shelf::slot(&*shelf, i));
     let edit = edit_in(heading, past, packet.len());
     let seats = heading.n as usize;
     let at = HEAD_LEN + 4 * seats;
@@ -53,7 +53,7 @@ pub fn take(seat: Seat, i: usize, shelf: &mut [u8], out: &mut [u8]) -> Stepped
     requires { ⌜ Chosen seat (now shelf) i ⌝ }
     ensures { λ r. ⌜ Released seat (now (shelf .entry)) (now (out .entry)) r (now (shelf .exit)) (now (out .exit)) ⌝ }
 {
-    let reading = packet::read(packet_in(shelf::slot(&*shelf, i)));
+    let reading = packet::read(held_in(shelf::slot(&*shelf, i)));
     let told = reading.answer;
     let past = reading.past;
     let barrier = reading.barrier;

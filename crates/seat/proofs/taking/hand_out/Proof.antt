@@ -29,23 +29,23 @@ sizes : (c : tie.Start) → Sizes (c .args .heading) (packetAt (now (c .args .sh
 sizes c = chosen-sizes _ _ _ _ _ _ (c .pre)
 
 -- what stands on the slot
-packet-is : (c : tie.After-packet-in) → let start = c .before .before .before .before .before in now (c .packet-in .result) ≡ packetAt (now (start .args .shelf)) (start .args .i)
-packet-is c = c .packet-in .ensures ∙ ap packetIn (c .before .slot .ensures)
+packet-is : (c : tie.After-held-in) → let start = c .before .before .before .before .before in now (c .held-in .result) ≡ packetAt (now (start .args .shelf)) (start .args .i)
+packet-is c = c .held-in .ensures ∙ ap packetIn (c .before .slot .ensures)
 
 slot-requires : tie.Need-slot-requires
 slot-requires c κs = search needs
 
 -- what the part lends is the packet's body
 body-is : (c : tie.After-body) → let start = c .before .before .before .before .before .before .before .before in
-    let packet = now (c .before .before .before .packet-in .result) in
+    let packet = now (c .before .before .before .held-in .result) in
     take (length packet - bodyAt (start .args .heading .n)) (drop (bodyAt (start .args .heading .n)) packet) ≡ bodyOf (packetAt (now (start .args .shelf)) (start .args .i))
 body-is c = let found = c .before .before .before in
     let start = found .before .before .before .before .before in
-    let packet = now (found .packet-in .result) in
+    let packet = now (found .held-in .result) in
     take-all _ _ (le-of-eq (length-drop _ packet)) ∙ ap (drop (bodyAt (start .args .heading .n))) (packet-is found) ∙ sym (chosen-body _ _ _ _ _ _ (start .pre))
 
 body-length : (c : tie.After-body) → let start = c .before .before .before .before .before .before .before .before in
-    let packet = now (c .before .before .before .packet-in .result) in
+    let packet = now (c .before .before .before .held-in .result) in
     length (take (length packet - bodyAt (start .args .heading .n)) (drop (bodyAt (start .args .heading .n)) packet)) ≡ length (bodyOf (packetAt (now (start .args .shelf)) (start .args .i)))
 body-length c = ap length (body-is c)
 
@@ -57,8 +57,9 @@ above-is c = let start = c .before .before .before .before .before .before .befo
     let r = start .pre in
     c .is-barrier-above-past .ensures ∙ (λ k. barrierAbovePast (start .args .seat) (r .heading-is k) (r .past-is k) (r .barrier-is k))
 
-packet-in-requires : tie.Need-packet-in-requires
-packet-in-requires c κs = let start = c .before .before .before .before in ap length (c .slot .ensures) ∙ length-slotAt _ _ (start .pre .chosen .there)
+held-in-requires : tie.Need-held-in-requires
+held-in-requires c κs = let start = c .before .before .before .before in
+    (ap length (c .slot .ensures) ∙ length-slotAt _ _ (start .pre .chosen .there), rw (c .slot .ensures) (start .pre .well-formed))
 
 edit-in-requires : tie.Need-edit-in-requires
 edit-in-requires c κs = let z = sizes (c .before .before .before .before .before) in
@@ -154,7 +155,7 @@ hand-out-spec =
     tie.close
     (tie.spec
     slot-requires
-    packet-in-requires
+    held-in-requires
     edit-in-requires
     cast-seats
     mul-at

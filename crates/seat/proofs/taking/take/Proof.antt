@@ -13,13 +13,14 @@ use Rattle.seat.proofs.taking.take.Tie as tie
 
 -- what was read is the packet on the slot
 reading-is : (c : tie.After-read) → let start = c .before .before .before .before .before .before in c .read .result ≡ readOf (packetAt (now (start .args .shelf)) (start .args .i))
-reading-is c = c .read .ensures ∙ ap readOf (c .before .packet-in .ensures ∙ ap packetIn (c .before .before .slot .ensures))
+reading-is c = c .read .ensures ∙ ap readOf (c .before .held-in .ensures ∙ ap packetIn (c .before .before .slot .ensures))
 
 slot-requires : tie.Need-slot-requires
 slot-requires c κs = search needs
 
-packet-in-requires : tie.Need-packet-in-requires
-packet-in-requires c κs = let start = c .before .before .before .before in ap length (c .slot .ensures) ∙ length-slotAt _ _ (start .pre .there)
+held-in-requires : tie.Need-held-in-requires
+held-in-requires c κs = let start = c .before .before .before .before in
+    (ap length (c .slot .ensures) ∙ length-slotAt _ _ (start .pre .there), rw (c .slot .ensures) (chosen-passes _ _ _ (start .pre) .well-formed))
 
 read-requires : tie.Need-read-requires
 read-requires c κs = search needs
@@ -62,7 +63,7 @@ take-spec =
     tie.close
     (tie.spec
     slot-requires
-    packet-in-requires
+    held-in-requires
     read-requires
     enum-told
     refuse-requires
