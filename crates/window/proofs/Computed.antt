@@ -13,8 +13,8 @@ use lib.Dec.{leb, eqb, lit<}
 use lib.Pow.{pow-mono, pow-pos, shl-exact}
 use Rattle.window.specs.Window.{place, noneAbove, NoneAbove, soundWindow, marked, trailingOnes, moved, advanced}
 use Rattle.window.specs.declared.Window.{Window}
-use Rattle.window.proofs.Bits.{even-is-clear, bit-above, highest-is-set, ones-at-most, zeros-of-complement}
-use Rattle.window.proofs.Sound.{none-above-says, none-above-passes, advancing-keeps-run-within}
+use Rattle.window.proofs.Bits.{even-is-clear, bit-none, bit-above, highest-is-set, ones-at-most, zeros-of-complement}
+use Rattle.window.proofs.Sound.{none-above-says, none-above-passes, sound-passes, advancing-keeps-run-within}
 
 -- ---- soundness
 
@@ -54,6 +54,16 @@ module _ (past : ℕ) (w : Window) where
   pub unsound-by-run : past < w .run → false ≡ soundWindow past w
   unfolding soundWindow
   unsound-by-run h = rw (lt-leb (w .run) past h)
+
+  pub sound-without-marks : w .run ≤ past → w .ahead ≡ 0 → true ≡ soundWindow past w
+  sound-without-marks h none =
+      sym
+      (sound-passes past w
+      (record {
+        next-clear = rw none (bit-none 0);
+        run-within = h;
+        marks-within = λ b i set. absurd (true≢false (sym set ∙ rw none (bit-none b)));
+      }))
 
   pub sound-by-ahead : w .run ≤ past → (eqb (w .ahead % 2) 0 && noneAbove past w) ≡ soundWindow past w
   unfolding soundWindow

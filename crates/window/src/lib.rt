@@ -50,6 +50,10 @@ impl Window {
         if past < self.run {
             return false;
         }
+        // Most windows have nothing marked.
+        if self.ahead == 0 {
+            return true;
+        }
         (self.ahead % 2 == 0) & self.none_above(past)
     }
 
