@@ -32,6 +32,5 @@ pub mod AfterArrival
 pub mod AfterRelease
 pub mod Runs
 pub mod Demand3
-pub mod Computed
 pub mod PrintedCalls
 pub mod PrintedSession

@@ -14,7 +14,7 @@ use Rattle.seat.proofs.OpenAnswers.{opening-answers-0, done-open}
 use Rattle.session.specs.Protocol.{Seated}
 use Rattle.promises.specs.Demand3.{Place, Letter, FreshlyOpened, Session, opening, sending, arriving, releasing}
 use Rattle.promises.specs.Listing.{stepsOf, answersOf, Walks, listedSteps, listedAnswers, listedEvents}
-use Rattle.promises.proofs.Computed.{computed}
+use Rattle.seat.proofs.Computed.{computed}
 use Rattle.promises.proofs.PrintedCalls.{packet-1-1, packet-1-2, packet-2-1, none, state, one-0, two-0, three-0, empty}
 use Rattle.promises.proofs.PrintedCalls.{call-1, call-2, call-3, call-4, call-5, call-6, call-7, call-8, call-9, call-10, call-11, call-12, call-13}
 

@@ -34,3 +34,4 @@ pub mod PassingStays
 pub mod ShelfStaysSound
 pub mod SteppingSound
 pub mod BothStaySound
+pub mod Computed

@@ -8,3 +8,4 @@ pub mod Opened
 pub mod Printing
 pub mod Texts
 pub mod WholeInput
+pub mod Document

@@ -3,3 +3,4 @@ pub mod Printed
 pub mod Memory
 pub mod Course
 pub mod WholeInput
+pub mod Document

@@ -1,4 +1,4 @@
--- The definitions that document 01's printed session computes with, all at once: `unfolding computed` opens them.
+-- The definitions that a printed session computes with, all at once: `unfolding computed` opens them.
 use Prim.Native.Nat.{ℕ}
 use Rattle.answers.specs.Answers.{firstOf}
 use Rattle.vectors.specs.Vectors.{all, table, vector, within, same, zeroAbove, maxes}
