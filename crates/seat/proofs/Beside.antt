@@ -1,7 +1,7 @@
 -- Laws of a packet beside the words that a look gathers: the tests that it passes, and being counted in.
 use Prim.Native.Nat.{ℕ, _+_, _-_, _≤_, _<_}
 use mathlib.Core.Path.{_≡_, refl, sym, ap, _∙_}
-use mathlib.Core.Bool.{Bool, true, false, not, _&&_, _||_, Bool·not-not}
+use mathlib.Core.Bool.{Bool, true, false, not, _&&_, _||_, Bool·not-not, true≢false}
 use mathlib.Core.List.{List}
 use lib.Dec.{eqb, ltb}
 use lib.ListN.{length, length-set}
@@ -35,14 +35,14 @@ pub passed-is-in-window : (seat : Seat) (words : List ℕ) (heading : Heading) (
 unfolding passesBeside
 passed-is-in-window seat words heading past passed =
     let number = entry past (heading .sender) in
-    let repeated = handed (windowWith seat words (heading .sender)) number in
+    let repeated = handed (windowWith (seat .run) words (heading .sender)) number in
     let far = tooFarAhead seat (heading .sender) number in
     let near = and-both (not (otherSession seat heading) && not (aboveOwnCount seat past) && not repeated) (not far) passed in
     let new = and-both (not (otherSession seat heading) && not (aboveOwnCount seat past)) (not repeated) (near .0) in
-    (not-handed-is-above-run (windowWith seat words (heading .sender)) number (not-true repeated (new .1)), ltb-false _ _ (not-true far (near .1)))
+    (not-handed-is-above-run (windowWith (seat .run) words (heading .sender)) number (not-true repeated (new .1)), ltb-false _ _ (not-true far (near .1)))
 
 pub passes-by-tests : (seat : Seat) (words : List ℕ) (heading : Heading) (past : List ℕ) (number : ℕ) (window : Window) (repeated above far : Bool)
-    → number ≡ entry past (heading .sender) → window ≡ windowWith seat words (heading .sender) → repeated ≡ handed window number
+    → number ≡ entry past (heading .sender) → window ≡ windowWith (seat .run) words (heading .sender) → repeated ≡ handed window number
     → above ≡ aboveOwnCount seat past → far ≡ tooFarAhead seat (heading .sender) number
     → (eqb (heading .n) (seat .n) && not above && not repeated && not far) ≡ passesBeside seat words heading past
 unfolding passesBeside
@@ -51,28 +51,37 @@ passes-by-tests seat words heading past number window repeated above far is-numb
 
 -- ---- counted in
 
-module _ (seat : Seat) (stock : Stock) (i : ℕ) (sender : SeatNo) (past barrier : List ℕ) (number : ℕ) (marks : List ℕ) (key : ℕ) (is-ready : Bool)
-    (is-number : number ≡ entry past sender) (is-marks : marks ≡ markedWith seat (stock .marks) sender number) (is-key : key ≡ keyOf sender number)
-    (is-ready-is : is-ready ≡ ready seat barrier) where
-  marks-counted : marks ≡ markedWith seat (stock .marks) sender (entry past sender)
-  marks-counted = is-marks ∙ ap (λ (s : ℕ). markedWith seat (stock .marks) sender s) is-number
+module _ (choosing : Bool) (seat : Seat) (stock : Stock) (i : ℕ) (sender : SeatNo) (past barrier : List ℕ) (run : List ℕ) (number : ℕ) (marks : List ℕ)
+    (is-run : run ≡ seat .run) (is-number : number ≡ entry past sender) (is-marks : marks ≡ markedWith run (stock .marks) sender number) where
+  marks-counted : marks ≡ markedWith (seat .run) (stock .marks) sender (entry past sender)
+  marks-counted = is-marks ∙ (λ j. markedWith (is-run j) (stock .marks) sender (is-number j))
 
-  key-counted : key ≡ keyOf sender (entry past sender)
-  key-counted = is-key ∙ ap (λ (s : ℕ). keyOf sender s) is-number
+  pub counted-unchosen : choosing ≡ false → Counted choosing seat stock i sender past barrier (record { sound = true; marks = marks; first = stock .first; key = stock .key })
+  counted-unchosen none =
+      record {
+        stays-sound = refl;
+        marks-are = marks-counted;
+        first-is = λ some. absurd (true≢false (sym some ∙ none));
+        key-is = λ some. absurd (true≢false (sym some ∙ none));
+      }
 
-  compared : (lower : Bool) → (is-ready && ltb key (stock .key)) ≡ lower → sooner seat stock sender past barrier ≡ lower
-  compared lower e = rw (← is-ready-is, ← key-counted) e
+  module _ (key : ℕ) (is-ready : Bool) (is-key : key ≡ keyOf sender number) (is-ready-is : is-ready ≡ ready seat barrier) where
+    key-counted : key ≡ keyOf sender (entry past sender)
+    key-counted = is-key ∙ ap (λ (s : ℕ). keyOf sender s) is-number
 
-  pub counted-first : (is-ready && ltb key (stock .key)) ≡ true
-      → Counted seat stock i sender past barrier (record { sound = true; marks = marks; first = i; key = key })
-  counted-first e =
-      record { stays-sound = refl; marks-are = marks-counted; first-is = rw (compared true e); key-is = rw (compared true e) key-counted }
+    compared : (lower : Bool) → (is-ready && ltb key (stock .key)) ≡ lower → sooner seat stock sender past barrier ≡ lower
+    compared lower e = rw (← is-ready-is, ← key-counted) e
 
-  pub counted-later : (is-ready && ltb key (stock .key)) ≡ false
-      → Counted seat stock i sender past barrier (record { sound = true; marks = marks; first = stock .first; key = stock .key })
-  counted-later e =
-      record { stays-sound = refl; marks-are = marks-counted; first-is = rw (compared false e); key-is = rw (compared false e) }
+    pub counted-first : (is-ready && ltb key (stock .key)) ≡ true
+        → Counted choosing seat stock i sender past barrier (record { sound = true; marks = marks; first = i; key = key })
+    counted-first e =
+        record { stays-sound = refl; marks-are = marks-counted; first-is = λ some. rw (compared true e); key-is = λ some. rw (compared true e) key-counted }
 
-pub counted-length : (seat : Seat) (stock : Stock) (i : ℕ) (sender : SeatNo) (past barrier : List ℕ) (next : Stock) → Counted seat stock i sender past barrier next
+    pub counted-later : (is-ready && ltb key (stock .key)) ≡ false
+        → Counted choosing seat stock i sender past barrier (record { sound = true; marks = marks; first = stock .first; key = stock .key })
+    counted-later e =
+        record { stays-sound = refl; marks-are = marks-counted; first-is = λ some. rw (compared false e); key-is = λ some. rw (compared false e) }
+
+pub counted-length : (choosing : Bool) (seat : Seat) (stock : Stock) (i : ℕ) (sender : SeatNo) (past barrier : List ℕ) (next : Stock) → Counted choosing seat stock i sender past barrier next
     → length (stock .marks) ≡ 16 → length (next .marks) ≡ 16
-counted-length seat stock i sender past barrier next counted long = ap length (counted .marks-are) ∙ length-set (stock .marks) (sender .0 - 1) _ ∙ long
+counted-length choosing seat stock i sender past barrier next counted long = ap length (counted .marks-are) ∙ length-set (stock .marks) (sender .0 - 1) _ ∙ long

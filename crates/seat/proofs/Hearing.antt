@@ -63,19 +63,19 @@ module _ (seat : Seat) (shelf : List ℕ) (stock : Stock) (packet : List ℕ) (h
   heard-sizes = read-sizes packet heading (h .well-formed) (h .heading-is)
 
   -- what the words say is what refusal 17 asks
-  repeats-is : handed (windowWith seat (stock .marks) (heading .sender)) (entry past (heading .sender)) ≡ repeats seat shelf packet
+  repeats-is : handed (windowWith (seat .run) (stock .marks) (heading .sender)) (entry past (heading .sender)) ≡ repeats seat shelf packet
   repeats-is =
       h .surveyed .marks-are (h .sound-stock) (heading .sender) (entry past (heading .sender)) (heard-sizes .sender-low) (heard-sizes .sender-high)
       ∙ rw (h .heading-is, h .past-is)
 
   pub heard-answer : (answer : Answer) (repeated : Bool) (edit : Edit)
       → edit ≡ carried heading past (length packet)
-      → repeated ≡ handed (windowWith seat (stock .marks) (heading .sender)) (edit .number .0)
+      → repeated ≡ handed (windowWith (seat .run) (stock .marks) (heading .sender)) (edit .number .0)
       → answer ≡ firstOf (admissionRefusals seat heading past repeated) (admittedAnswer seat shelf heading past barrier edit)
       → answer ≡ arriveAnswer seat shelf packet
   heard-answer answer repeated edit e r a =
       let same : edit ≡ editHanded packet = e ∙ carried-is packet heading (h .well-formed) (h .heading-is) past (h .past-is) in
-      let again : repeated ≡ repeats seat shelf packet = r ∙ ap (λ (x : Edit). handed (windowWith seat (stock .marks) (heading .sender)) (x .number .0)) e ∙ repeats-is in
+      let again : repeated ≡ repeats seat shelf packet = r ∙ ap (λ (x : Edit). handed (windowWith (seat .run) (stock .marks) (heading .sender)) (x .number .0)) e ∙ repeats-is in
       a ∙ (λ i. firstOf (admissionRefusals seat (h .heading-is i) (h .past-is i) (again i)) (admittedAnswer seat shelf (h .heading-is i) (h .past-is i) (h .barrier-is i) (same i)))
       ∙ sym (heard-goes-on seat shelf packet (h .sound) (h .well-formed))
 
@@ -142,7 +142,7 @@ module _ (seat : Seat) (packet shelf : List ℕ) (stepped : Stepped) where
   refused-14 sound bad = refused-whole NotWellFormed (goes-on NotSound _ _ _ (ap not sound) ∙ refuses NotWellFormed _ _ _ (ap not (ne-eqb _ _ bad)))
 
 -- a packet that was read beside a sound stock is heard
-pub heard : (seat : Seat) (shelf : List ℕ) (stock : Stock) (packet : List ℕ) (reading : Reading) (heading : Heading) → LookedOver seat shelf stock → stock .sound ≡ true
+pub heard : (seat : Seat) (shelf : List ℕ) (stock : Stock) (packet : List ℕ) (reading : Reading) (heading : Heading) → LookedOver false seat shelf stock → stock .sound ≡ true
     → reading ≡ readOf packet → reading .answer ≡ Packet heading → Heard seat shelf stock packet heading (reading .past) (reading .barrier)
 heard seat shelf stock packet reading heading looked sound is answered =
     let t = told packet reading is heading answered in

@@ -25,23 +25,23 @@ eqb-turned a b =
     ]
 
 module _ (seat : Seat) (words : List ℕ) (sender : SeatNo) (number : ℕ) (long : length words ≡ 16) (low : 1 ≤ sender .0) (high : sender .0 ≤ 16) where
-  own-window : (other : SeatNo) → sender .0 ≡ other .0 → windowWith seat (markedWith seat words sender number) other ≡ marked (windowWith seat words sender) number
+  own-window : (other : SeatNo) → sender .0 ≡ other .0 → windowWith (seat .run) (markedWith (seat .run) words sender number) other ≡ marked (windowWith (seat .run) words sender) number
   unfolding marked
   own-window other same =
       rw (← same) (ap (λ (word : ℕ). record { run = entry (seat .run) sender; ahead = word }) (getD-set-same words (sender .0 - 1) _ 0 (omega arith)))
 
   other-window : (other : SeatNo) → 1 ≤ other .0 → (sender .0 ≡ other .0 → ⊥)
-      → windowWith seat (markedWith seat words sender number) other ≡ windowWith seat words other
+      → windowWith (seat .run) (markedWith (seat .run) words sender number) other ≡ windowWith (seat .run) words other
   other-window other some differ =
       ap (λ (word : ℕ). record { run = entry (seat .run) other; ahead = word })
       (getD-set-other words (sender .0 - 1) (other .0 - 1) _ 0 (λ (same : other .0 - 1 ≡ sender .0 - 1). differ (omega arith)))
 
   pub marking-adds-the-edit : entry (seat .run) sender < number → (other : SeatNo) (t : ℕ) → 1 ≤ other .0
-      → handed (windowWith seat (markedWith seat words sender number) other) t
-      ≡ (handed (windowWith seat words other) t || (eqb (sender .0) (other .0) && eqb number t))
+      → handed (windowWith (seat .run) (markedWith (seat .run) words sender number) other) t
+      ≡ (handed (windowWith (seat .run) words other) t || (eqb (sender .0) (other .0) && eqb number t))
   marking-adds-the-edit above other t some =
       elim (ℕ-discrete (sender .0) (other .0)) [
-        | yes same ↦ ap (λ (w : Window). handed w t) (own-window other same) ∙ marking-adds-one (windowWith seat words sender) number t above
+        | yes same ↦ ap (λ (w : Window). handed w t) (own-window other same) ∙ marking-adds-one (windowWith (seat .run) words sender) number t above
             ∙ rw (eq-eqb (sender .0) (other .0) same, ← same, eqb-turned t number)
         | no differ ↦ ap (λ (w : Window). handed w t) (other-window other some differ)
             ∙ rw (ne-eqb (sender .0) (other .0) differ) (sym (or-false _))

@@ -138,6 +138,6 @@ module _ (seat : Seat) (shelf : List ℕ) where
       ]
 
   -- what a look finds of soundness, beside the test of whole slots
-  pub look-tells-sound : (stock : Stock) (whole : Bool) → Surveyed seat shelf stock → whole ≡ wholeSlots shelf → (whole && stock .sound) ≡ soundShelf seat shelf
+  pub look-tells-sound : (choosing : Bool) (stock : Stock) (whole : Bool) → Surveyed choosing seat shelf stock → whole ≡ wholeSlots shelf → (whole && stock .sound) ≡ soundShelf seat shelf
   unfolding soundShelf
-  look-tells-sound stock whole surveyed is-whole = ap₂ _&&_ is-whole (surveyed .sound-is)
+  look-tells-sound choosing stock whole surveyed is-whole = ap₂ _&&_ is-whole (surveyed .sound-is)

@@ -1,7 +1,7 @@
 -- What the steps' private functions know when they are called.
 use Prim.Native.Nat.{ℕ, _<_}
 use mathlib.Core.Path.{_≡_}
-use mathlib.Core.Bool.{true}
+use mathlib.Core.Bool.{Bool, true, false}
 use mathlib.Core.List.{List}
 use Rattle.packet.specs.Packet.{pastOf, barrierOf, firstBadPoint}
 use Rattle.packet.specs.declared.Heading.{Heading}
@@ -14,14 +14,14 @@ use Rattle.seat.specs.declared.Seat.{Seat}
 use Rattle.seat.specs.declared.stock.Stock.{Stock}
 
 -- A look over state and shelf tells whether both are sound, and what a sound shelf holds.
-pub record LookedOver (seat : Seat) (shelf : List ℕ) (stock : Stock) : Type 0 where
+pub record LookedOver (choosing : Bool) (seat : Seat) (shelf : List ℕ) (stock : Stock) : Type 0 where
   pub sound-is : stock .sound ≡ soundBoth seat shelf
-  pub surveyed : stock .sound ≡ true → Surveyed seat shelf stock
+  pub surveyed : stock .sound ≡ true → Surveyed choosing seat shelf stock
 
 -- State and shelf are sound, the shelf was surveyed, and the packet was read as well formed.
 pub record Heard (seat : Seat) (shelf : List ℕ) (stock : Stock) (packet : List ℕ) (heading : Heading) (past barrier : List ℕ) : Type 0 where
   pub sound : soundBoth seat shelf ≡ true
-  pub surveyed : Surveyed seat shelf stock
+  pub surveyed : Surveyed false seat shelf stock
   pub sound-stock : stock .sound ≡ true
   pub well-formed : firstBadPoint packet ≡ 0
   pub heading-is : heading ≡ headingOf packet

@@ -108,10 +108,11 @@ pub fn settle(
     ensures { λ r. ⌜ Arrived seat (now (packet .entry)) (now (shelf .entry)) r (now (shelf .exit)) ⌝ }
 {
     let edit = edit_in(heading, past, packet.len());
+    let run = seat.run;
     let marks = stock.marks;
     let sender = heading.sender;
     let number = edit.number;
-    let repeated = window_with(seat, &marks, sender).holds(number);
+    let repeated = window_with(&run, &marks, sender).holds(number);
     let answer = judged(seat, heading, past, barrier, repeated, edit, &*shelf);
     match answer {
         Answer::Done(_) => {

@@ -155,7 +155,7 @@ impl Seat {
     pub fn arrive(self, packet: &[u8], shelf: &mut [u8]) -> Stepped
         ensures { λ r. ⌜ Arrived self (now (packet .entry)) (now (shelf .entry)) r (now (shelf .exit)) ⌝ }
     {
-        let stock = look_over(self, &*shelf);
+        let stock = look_over(false, self, &*shelf);
         if !stock.sound {
             return refuse(self, Refusal::NotSound);
         }
@@ -181,7 +181,7 @@ impl Seat {
     pub fn release(self, shelf: &mut [u8], out: &mut [u8]) -> Stepped
         ensures { λ r. ⌜ Released self (now (shelf .entry)) (now (out .entry)) r (now (shelf .exit)) (now (out .exit)) ⌝ }
     {
-        let stock = look_over(self, &*shelf);
+        let stock = look_over(true, self, &*shelf);
         if !stock.sound {
             return refuse(self, Refusal::NotSound);
         }

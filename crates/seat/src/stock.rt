@@ -25,7 +25,8 @@ ghost use Rattle.seat.specs.Steps.{LookedOver};
 const NO_KEY: u32 = 4294967295;
 
 // What one look over the slots finds: whether they are sound; the numbers that are handed over or on the shelf, a word
-// for each sender, laid out as ahead is; the slot of the ready packet that comes first, and that packet's key.
+// for each sender, laid out as ahead is; where a packet is to be chosen, the slot of the ready one that comes first, and
+// that packet's key.
 pub struct Stock {
     pub sound: bool,
     pub marks: [u64; 16],
@@ -103,30 +104,36 @@ pub fn is_too_far_ahead(seat: Seat, sender: SeatNo, number: EditNo) -> bool
     last < number.0 as u32
 }
 
-// A sender's window, with other words in place of ahead. The callers have read the sender from a packet.
-pub fn window_with(seat: Seat, words: &[u64; 16], sender: SeatNo) -> Window
+// A sender's window of run and the words, which may be other ones than ahead. The callers have read the sender from a
+// packet.
+pub fn window_with(run: &[u16; 16], words: &[u64; 16], sender: SeatNo) -> Window
     requires { ⌜ (1 ≤ sender .0) × (sender .0 ≤ 16) ⌝ }
-    ensures { λ r. ⌜ r ≡ windowWith seat (now (words .entry)) sender ⌝ }
+    ensures { λ r. ⌜ r ≡ windowWith (now (run .entry)) (now (words .entry)) sender ⌝ }
 {
     let at = (sender.0 - 1) as usize;
-    let reached = seat.run;
     Window {
-        run: reached[at],
+        run: run[at],
         ahead: words[at],
     }
 }
 
 // Refusals 15 to 18 of a packet that was read, beside the numbers that are handed over or on the shelf. The callers have
-// found the own number to be in range.
-fn passes_beside(seat: Seat, words: &[u64; 16], heading: Heading, past: [u16; 16]) -> bool
-    requires { ⌜ (1 ≤ heading .sender .0) × (heading .sender .0 ≤ 16) × (1 ≤ seat .own .0) × (seat .own .0 ≤ 16) ⌝ }
-    ensures { λ r. ⌜ r ≡ passesBeside seat (now (words .entry)) heading past ⌝ }
+// found the own number to be in range, and run is the seat's.
+fn passes_beside(
+    seat: Seat,
+    run: &[u16; 16],
+    words: &[u64; 16],
+    heading: Heading,
+    past: &[u16; 16],
+) -> bool
+    requires { ⌜ (1 ≤ heading .sender .0) × (heading .sender .0 ≤ 16) × (1 ≤ seat .own .0) × (seat .own .0 ≤ 16) × (now run ≡ seat .run) ⌝ }
+    ensures { λ r. ⌜ r ≡ passesBeside seat (now (words .entry)) heading (now (past .entry)) ⌝ }
 {
     let sender = heading.sender;
     let at = (sender.0 - 1) as usize;
     let own = (seat.own.0 - 1) as usize;
     let number = EditNo(past[at]);
-    let window = window_with(seat, words, sender);
+    let window = window_with(run, words, sender);
     let repeated = window.holds(number);
     let above = own_count(seat) < past[own];
     let far = window.run as u32 + 64 < number.0 as u32;
@@ -134,12 +141,12 @@ fn passes_beside(seat: Seat, words: &[u64; 16], heading: Heading, past: [u16; 16
 }
 
 // A sender's number is marked in the words. The caller has found the number to be in the sender's window.
-fn mark_in(seat: Seat, marks: &mut [u64; 16], sender: SeatNo, number: EditNo)
-    requires { ⌜ (1 ≤ sender .0) × (sender .0 ≤ 16) × (entry (seat .run) sender < number .0) × (number .0 ≤ entry (seat .run) sender + 64) ⌝ }
-    ensures { λ _. ⌜ now (marks .exit) ≡ markedWith seat (now (marks .entry)) sender (number .0) ⌝ }
+fn mark_in(run: &[u16; 16], marks: &mut [u64; 16], sender: SeatNo, number: EditNo)
+    requires { ⌜ (1 ≤ sender .0) × (sender .0 ≤ 16) × (entry (now run) sender < number .0) × (number .0 ≤ entry (now run) sender + 64) ⌝ }
+    ensures { λ _. ⌜ now (marks .exit) ≡ markedWith (now (run .entry)) (now (marks .entry)) sender (number .0) ⌝ }
 {
     let at = (sender.0 - 1) as usize;
-    let window = window_with(seat, &*marks, sender).mark(number);
+    let window = window_with(run, &*marks, sender).mark(number);
     marks[at] = window.ahead;
 }
 
@@ -150,23 +157,32 @@ fn key_of(sender: SeatNo, number: EditNo) -> u32
     sender.0 as u32 * 65536 + number.0 as u32
 }
 
-// The packet on slot i is counted in: its number is marked, and it is the first so far where it is ready and its key is
-// lower. The caller has found its number to be in the sender's window.
+// The packet on slot i is counted in: its number is marked. Where a packet is to be chosen, it is the first so far where
+// it is ready and its key is lower. The caller has found its number to be in the sender's window, and run is the seat's.
 fn count_in(
+    choosing: bool,
     seat: Seat,
+    run: &[u16; 16],
     marks: &mut [u64; 16],
     seen: Seen,
     i: usize,
     sender: SeatNo,
-    past: [u16; 16],
+    past: &[u16; 16],
     barrier: [u16; 16],
 ) -> Seen
-    requires { ⌜ (1 ≤ sender .0) × (sender .0 ≤ 16) × (entry (seat .run) sender < entry past sender) × (entry past sender ≤ entry (seat .run) sender + 64) ⌝ }
-    ensures { λ r. ⌜ Counted seat (stockOf seen (now (marks .entry))) i sender past barrier (stockOf r (now (marks .exit))) ⌝ }
+    requires { ⌜ (1 ≤ sender .0) × (sender .0 ≤ 16) × (entry (seat .run) sender < entry (now past) sender) × (entry (now past) sender ≤ entry (seat .run) sender + 64) × (now run ≡ seat .run) ⌝ }
+    ensures { λ r. ⌜ Counted choosing seat (stockOf seen (now (marks .entry))) i sender (now (past .entry)) barrier (stockOf r (now (marks .exit))) ⌝ }
 {
     let at = (sender.0 - 1) as usize;
     let number = EditNo(past[at]);
-    mark_in(seat, marks, sender, number);
+    mark_in(run, marks, sender, number);
+    if !choosing {
+        return Seen {
+            sound: true,
+            first: seen.first,
+            key: seen.key,
+        };
+    }
     let key = key_of(sender, number);
     if is_ready(seat, barrier) & (key < seen.key) {
         return Seen {
@@ -191,9 +207,17 @@ fn unsound(seen: Seen) -> Seen
 }
 
 // Slot i is looked at. The caller has found the slot to be there and in use, and those before it to be sound.
-fn look(seat: Seat, shelf: &[u8], i: usize, marks: &mut [u64; 16], seen: Seen) -> Seen
-    requires { ⌜ Looking i seat (now shelf) seen (now marks) ⌝ }
-    ensures { λ r. ⌜ (length (now (marks .exit)) ≡ 16) × Looked (i + 1) seat (now (shelf .entry)) (stockOf r (now (marks .exit))) ⌝ }
+fn look(
+    choosing: bool,
+    seat: Seat,
+    run: &[u16; 16],
+    shelf: &[u8],
+    i: usize,
+    marks: &mut [u64; 16],
+    seen: Seen,
+) -> Seen
+    requires { ⌜ Looking choosing i seat (now run) (now shelf) seen (now marks) ⌝ }
+    ensures { λ r. ⌜ (length (now (marks .exit)) ≡ 16) × Looked choosing (i + 1) seat (now (shelf .entry)) (stockOf r (now (marks .exit))) ⌝ }
 {
     let slot = shelf::slot(shelf, i);
     let reading = packet::read(packet_in(slot));
@@ -202,12 +226,21 @@ fn look(seat: Seat, shelf: &[u8], i: usize, marks: &mut [u64; 16], seen: Seen) -
         ReadAnswer::Refused => unsound(seen),
         ReadAnswer::Packet(heading) => {
             let sender = heading.sender;
-            let past = reading.past;
             let barrier = reading.barrier;
-            if !passes_beside(seat, &*marks, heading, past) {
+            if !passes_beside(seat, run, &*marks, heading, &reading.past) {
                 return unsound(seen);
             }
-            count_in(seat, marks, seen, i, sender, past, barrier)
+            count_in(
+                choosing,
+                seat,
+                run,
+                marks,
+                seen,
+                i,
+                sender,
+                &reading.past,
+                barrier,
+            )
         }
     }
 }
@@ -223,12 +256,14 @@ fn stock_of(seen: Seen, marks: [u64; 16]) -> Stock
     }
 }
 
-// One look over the shelf. The caller has found the own number to be in range.
-pub fn survey(seat: Seat, shelf: &[u8]) -> Stock
+// One look over the shelf, for the ready packet that comes first too where one is to be chosen. The caller has found the
+// own number to be in range.
+pub fn survey(choosing: bool, seat: Seat, shelf: &[u8]) -> Stock
     requires { ⌜ (1 ≤ seat .own .0) × (seat .own .0 ≤ 16) ⌝ }
-    ensures { λ r. ⌜ Surveyed seat (now (shelf .entry)) r ⌝ }
+    ensures { λ r. ⌜ Surveyed choosing seat (now (shelf .entry)) r ⌝ }
 {
     let n = shelf.len() / SLOT_SIZE;
+    let run = seat.run;
     let mut marks = seat.ahead;
     let mut seen = Seen {
         sound: true,
@@ -237,7 +272,7 @@ pub fn survey(seat: Seat, shelf: &[u8]) -> Stock
     };
     for i in 0..n {
         if !shelf::is_free(shelf::slot(shelf, i)) {
-            seen = look(seat, shelf, i, &mut marks, seen);
+            seen = look(choosing, seat, &run, shelf, i, &mut marks, seen);
             if !seen.sound {
                 return stock_of(seen, marks);
             }
@@ -247,8 +282,8 @@ pub fn survey(seat: Seat, shelf: &[u8]) -> Stock
 }
 
 // One look over state and shelf: not sound where the state or the shelf's length is not.
-pub fn look_over(seat: Seat, shelf: &[u8]) -> Stock
-    ensures { λ r. ⌜ LookedOver seat (now (shelf .entry)) r ⌝ }
+pub fn look_over(choosing: bool, seat: Seat, shelf: &[u8]) -> Stock
+    ensures { λ r. ⌜ LookedOver choosing seat (now (shelf .entry)) r ⌝ }
 {
     let marks = seat.ahead;
     let none = Stock {
@@ -263,5 +298,5 @@ pub fn look_over(seat: Seat, shelf: &[u8]) -> Stock
     if !shelf::has_whole_slots(shelf) {
         return none;
     }
-    survey(seat, shelf)
+    survey(choosing, seat, shelf)
 }

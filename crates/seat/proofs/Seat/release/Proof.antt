@@ -1,5 +1,5 @@
 -- `release` meets its contract.
-use mathlib.Core.Path.{sym, _∙_}
+use mathlib.Core.Path.{refl, sym, _∙_}
 use borrow.Author.Tests.{not-true, not-false}
 use lib.Arith.{lt-of-le-ne}
 use Rattle.seat.proofs.Chosen.{chosen-is-at-most-slots}
@@ -28,14 +28,14 @@ returns-2 : tie.Need-returns-2
 returns-2 c = let passed = c .before in
     let look = passed .before .before in
     let sound = not-false _ (passed .if1 .left) in
-    idle-release _ _ _ (none-ready-answers-2 _ _ _ (sym (look .look-over .ensures .sound-is) ∙ sound) (sym (look .look-over .ensures .surveyed sound .first-is sound) ∙ c .if2 .taken))
+    idle-release _ _ _ (none-ready-answers-2 _ _ _ (sym (look .look-over .ensures .sound-is) ∙ sound) (sym (look .look-over .ensures .surveyed sound .first-is refl sound) ∙ c .if2 .taken))
 
 take-requires : tie.Need-take-requires
 take-requires c κs = let some = c .before .before in
     let passed = some .before in
     let look = passed .before .before in
     let sound = not-false _ (passed .if1 .left) in
-    let first-is = look .look-over .ensures .surveyed sound .first-is sound in
+    let first-is = look .look-over .ensures .surveyed sound .first-is refl sound in
     record {
       sound = sym (look .look-over .ensures .sound-is) ∙ sound;
       there = lt-of-le-ne (rw first-is (chosen-is-at-most-slots _ _)) (some .if2 .left);

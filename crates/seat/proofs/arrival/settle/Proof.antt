@@ -25,10 +25,10 @@ count-fits c = search needs
 sizes : (c : tie.Start) → Sizes (c .args .heading) (now (c .args .packet))
 sizes c = heard-sizes _ _ _ _ _ _ _ (c .pre)
 
-answer-is : (c : tie.After-judged) → let a = c .before .before .before .before .before .before .before .before .before .before .before .args in
+answer-is : (c : tie.After-judged) → let a = c .before .before .before .before .before .before .before .before .before .before .before .before .before .args in
     c .judged .result ≡ arriveAnswer (a .seat) (now (a .shelf)) (now (a .packet))
 answer-is c = let met = c .before .before in
-    let edit = met .before .before .before .before .before .before in
+    let edit = met .before .before .before .before .before .before .before .before in
     let start = edit .before .before .before in
     let a = start .args in
     heard-answer (a .seat) (now (a .shelf)) (a .stock) (now (a .packet)) (a .heading) (a .past) (a .barrier) (start .pre) _ _ _ (edit .edit-in .ensures) (met .holds .ensures ∙ ap (λ (w : Window). handed w (edit .edit-in .result .number .0)) (met .before .window-with .ensures)) (c .judged .ensures)
@@ -37,13 +37,13 @@ edit-in-requires : tie.Need-edit-in-requires
 edit-in-requires c κs = let z = sizes (c .before .before) in (z .sender-low, z .sender-high, z .seats-high, z .body-inside, z .short)
 
 window-with-requires : tie.Need-window-with-requires
-window-with-requires c κs = let z = sizes (c .before .before .before .before .before .before .before) in (z .sender-low, z .sender-high)
+window-with-requires c κs = let z = sizes (c .before .before .before .before .before .before .before .before .before) in (z .sender-low, z .sender-high)
 
 holds-requires : tie.Need-holds-requires
 holds-requires c κs = search needs
 
 judged-requires : tie.Need-judged-requires
-judged-requires c κs = let edit = c .before .before .before .before .before .before .before in
+judged-requires c κs = let edit = c .before .before .before .before .before .before .before .before .before in
     ap (λ (e : Edit). e .number .0) (edit .edit-in .ensures)
 
 enum-told : tie.Need-enum-told
@@ -51,7 +51,7 @@ enum-told c = search needs
 
 hand-over-requires : tie.Need-hand-over-requires
 hand-over-requires c κs = let judged = c .before .before in
-    let start = judged .before .before .before .before .before .before .before .before .before .before .before in
+    let start = judged .before .before .before .before .before .before .before .before .before .before .before .before .before in
     let a = start .args in
     let z = sizes start in
     let most : getD (a .seat .past) (a .heading .sender .0 - 1) 0 ≤ 65535 = omega (arith, count-fits start) in
@@ -74,7 +74,7 @@ lay-requires : tie.Need-lay-requires
 lay-requires c κs = let free = c .before in
     let told = free .before .before in
     let judged = told .before .before in
-    let start = judged .before .before .before .before .before .before .before .before .before .before .before in
+    let start = judged .before .before .before .before .before .before .before .before .before .before .before .before .before in
     let there = heard-free _ _ _ _ _ _ _ (start .pre) (sym (answer-is judged) ∙ told .enum-told2 .given .1) _ (free .lowest-free .ensures) in
     (there, sizes start .short)
 
@@ -93,7 +93,7 @@ same-length c = search needs
 returns : tie.Need-returns
 returns c = let told = c .before in
     let judged = told .before .before in
-    let start = judged .before .before .before .before .before .before .before .before .before .before .before in
+    let start = judged .before .before .before .before .before .before .before .before .before .before .before .before .before in
     let h = start .pre in
     arrived-done _ _ _ _ (answer-is judged) _ _ (told .enum-told .given .1)
     (c .hand-over .ensures ∙ (λ i. handOver (start .args .seat) (h .heading-is i) (h .past-is i) (h .barrier-is i)))
@@ -106,7 +106,7 @@ returns-2 c = let lay = c .before .before in
     let free = lay .before .before in
     let told = free .before .before in
     let judged = told .before .before in
-    let start = judged .before .before .before .before .before .before .before .before .before .before .before in
+    let start = judged .before .before .before .before .before .before .before .before .before .before .before .before .before in
     arrived-shelved _ _ _ _ (answer-is judged) _ (told .enum-told2 .given .1) (lay .lay .ensures ∙ ap (λ (i : ℕ). laid (now (start .args .shelf)) i (slotOf (now (start .args .packet)))) (free .lowest-free .ensures))
 
 same-length-3 : tie.Need-same-length-3

@@ -12,7 +12,7 @@ is-sound-requires : tie.Need-is-sound-requires
 is-sound-requires c κs = search needs
 
 returns : tie.Need-returns
-returns c = unsound-state _ _ _ refl (sym (c .before .is-sound .ensures) ∙ not-true _ (c .if1 .taken))
+returns c = unsound-state _ _ _ _ refl (sym (c .before .is-sound .ensures) ∙ not-true _ (c .if1 .taken))
 
 has-whole-slots-requires : tie.Need-has-whole-slots-requires
 has-whole-slots-requires c κs = search needs
@@ -20,7 +20,7 @@ has-whole-slots-requires c κs = search needs
 returns-2 : tie.Need-returns-2
 returns-2 c = let whole = c .before in
     let passed = whole .before in
-    broken-slots _ _ _ refl (sym (passed .before .is-sound .ensures) ∙ not-false _ (passed .if1 .left)) (sym (whole .has-whole-slots .ensures) ∙ not-true _ (c .if2 .taken))
+    broken-slots _ _ _ _ refl (sym (passed .before .is-sound .ensures) ∙ not-false _ (passed .if1 .left)) (sym (whole .has-whole-slots .ensures) ∙ not-true _ (c .if2 .taken))
 
 survey-requires : tie.Need-survey-requires
 survey-requires c κs = let passed = c .before .before in
@@ -30,7 +30,7 @@ survey-requires c κs = let passed = c .before .before in
 returns-3 : tie.Need-returns-3
 returns-3 c = let whole = c .before .before in
     let passed = whole .before in
-    surveyed-shelf _ _ _ (sym (passed .before .is-sound .ensures) ∙ not-false _ (passed .if1 .left)) (sym (whole .has-whole-slots .ensures) ∙ not-false _ (c .before .if2 .left)) (c .survey .ensures)
+    surveyed-shelf _ _ _ _ (sym (passed .before .is-sound .ensures) ∙ not-false _ (passed .if1 .left)) (sym (whole .has-whole-slots .ensures) ∙ not-false _ (c .before .if2 .left)) (c .survey .ensures)
 
 pub look-over-spec : {M : Type 1} → statement M
 look-over-spec =

@@ -1,6 +1,6 @@
 -- `survey` meets its contract: after i slots it has found what stands on these.
 use Prim.Native.Nat.{ℕ, _+_, _-_, _≤_}
-use mathlib.Core.Bool.{true}
+use mathlib.Core.Bool.{Bool, true}
 use mathlib.Core.List.{List}
 use mathlib.Core.Path.{_≡_, refl, sym, ap, _∙_, subst}
 use mathlib.Core.Logic.{⊎-elim}
@@ -19,14 +19,14 @@ use Rattle.seat.proofs.stock.survey.Statement.{statement}
 use Rattle.seat.proofs.stock.survey.Tie as tie
 
 -- what is found on the first i slots, all of them sound
-abbrev Found : Seat → List ℕ → ℕ → List ℕ → Seen → Type 0
-Found seat shelf i marks seen = (seen .sound ≡ true) × (length marks ≡ 16) × Looked i seat shelf (stockOf seen marks)
+abbrev Found : Bool → Seat → List ℕ → ℕ → List ℕ → Seen → Type 0
+Found choosing seat shelf i marks seen = (seen .sound ≡ true) × (length marks ≡ 16) × Looked choosing i seat shelf (stockOf seen marks)
 
 abbrev Inv-loop : tie.InvT-loop
-Inv-loop seat shelf n marks₀ seen₀ i₀ marks seen i = (i ≤ n) × Found seat shelf i marks seen
+Inv-loop choosing seat shelf n run marks₀ seen₀ i₀ marks seen i = (i ≤ n) × Found choosing seat shelf i marks seen
 
 abbrev μ-loop : tie.MeasureT-loop
-μ-loop seat shelf n marks₀ seen₀ i₀ marks seen i = n - i
+μ-loop choosing seat shelf n run marks₀ seen₀ i₀ marks seen i = n - i
 
 both : (F : List ℕ → Seen → Type 0) {marks marks′ : List ℕ} {seen seen′ : Seen} → marks ≡ marks′ → seen ≡ seen′ → F marks′ seen′ → F marks seen
 both F {marks} {marks′} {seen} {seen′} e d x = subst (λ (m : List ℕ). F m seen) (sym e) (subst (λ (s : Seen). F marks′ s) (sym d) x)
@@ -36,25 +36,25 @@ long c = search needs
 
 -- what the test says of slot i
 tested : (c : tie.After-is-free Inv-loop μ-loop)
-    → let at = c .before .before .before in c .is-free .result ≡ isFree (now (at .before .before .before .args .shelf)) (at .loop .i)
+    → let at = c .before .before .before in c .is-free .result ≡ isFree (now (at .before .before .before .before .args .shelf)) (at .loop .i)
 tested c = c .is-free .ensures ∙ ap allZero (c .before .slot .ensures)
 
 -- what holds after slot i, whether it is in use or free
 seen : (c : tie.Joined1 Inv-loop μ-loop)
     → let at = c .before .before .before .before in
-    let start = at .before .before .before in
-    Found (start .args .seat) (now (start .args .shelf)) (at .loop .i + 1) (c .if1 .marks) (c .if1 .seen)
+    let start = at .before .before .before .before in
+    Found (start .args .choosing) (start .args .seat) (now (start .args .shelf)) (at .loop .i + 1) (c .if1 .marks) (c .if1 .seen)
 seen c = let at = c .before .before .before .before in
-    let start = at .before .before .before in
-    let found = Found (start .args .seat) (now (start .args .shelf)) (at .loop .i + 1) in
+    let start = at .before .before .before .before in
+    let found = Found (start .args .choosing) (start .args .seat) (now (start .args .shelf)) (at .loop .i + 1) in
     ⊎-elim
-    (λ w. both found (w .5) (w .6) (not-false _ (w .4 .left), w .2 .ensures .0, w .2 .ensures .1))
+    (λ w. both found (w .6) (w .7) (not-false _ (w .5 .left), w .3 .ensures .0, w .3 .ensures .1))
     (λ w. both found (w .1) (w .2)
-    (at .loop .inv .1 .0, at .loop .inv .1 .1, slot-is-free _ _ _ _ (at .loop .inv .1 .0) (at .loop .inv .1 .2) (sym (tested (c .before)) ∙ not-false _ (w .0 .left))))
+    (at .loop .inv .1 .0, at .loop .inv .1 .1, slot-is-free _ _ _ _ _ (at .loop .inv .1 .0) (at .loop .inv .1 .2) (sym (tested (c .before)) ∙ not-false _ (w .0 .left))))
     (c .if1 .came)
 
 loop-holds : tie.Need-loop-holds Inv-loop μ-loop
-loop-holds c = (omega arith, (refl, long (c .before .before), looked-at-none _ _ _ refl refl refl refl))
+loop-holds c = (omega arith, (refl, long (c .before .before .before), looked-at-none _ _ _ _ refl refl refl refl))
 
 slot-requires : tie.Need-slot-requires Inv-loop μ-loop
 slot-requires c κs = search needs
@@ -63,10 +63,10 @@ is-free-requires : tie.Need-is-free-requires Inv-loop μ-loop
 is-free-requires c κs = ap length (c .slot .ensures) ∙ length-slotAt _ _ (c .before .loop-test .taken)
 
 look-requires : tie.Need-look-requires Inv-loop μ-loop
-look-requires c κs = let used = c .before in
+look-requires c κs = let used = c .before .before in
     let turn = used .before .before .before in
     let at = turn .before in
-    let start = at .before .before .before in
+    let start = at .before .before .before .before in
     record {
       there = turn .loop-test .taken;
       used = sym (tested (used .before)) ∙ not-true _ (used .if1 .taken);
@@ -74,6 +74,7 @@ look-requires c κs = let used = c .before in
       long = at .loop .inv .1 .1;
       own-low = start .pre .0;
       own-high = start .pre .1;
+      run-is = refl;
       looked = at .loop .inv .1 .2;
     }
 
@@ -82,7 +83,7 @@ stock-of-requires c κs = search needs
 
 returns : tie.Need-returns Inv-loop μ-loop
 returns c = let bad = c .before in
-    rw (c .stock-of .ensures) (looked-in-vain _ _ _ _ (bad .before .before .look .ensures .1) (omega arith) (not-true _ (bad .if2 .taken)))
+    rw (c .stock-of .ensures) (looked-in-vain _ _ _ _ _ (bad .before .before .look .ensures .1) (omega arith) (not-true _ (bad .if2 .taken)))
 
 add-i : tie.Need-add-i Inv-loop μ-loop
 add-i c = search needs
@@ -97,7 +98,7 @@ stock-of-requires-2 : tie.Need-stock-of-requires-2 Inv-loop μ-loop
 stock-of-requires-2 c κs = search needs
 
 returns-2 : tie.Need-returns-2 Inv-loop μ-loop
-returns-2 c = let all = c .before in rw (c .stock-of2 .ensures) (looked-at-all _ _ _ _ (all .before .loop .inv .1 .2) (omega arith))
+returns-2 c = let all = c .before in rw (c .stock-of2 .ensures) (looked-at-all _ _ _ _ _ (all .before .loop .inv .1 .2) (omega arith))
 
 pub survey-spec : {M : Type 1} → statement M
 survey-spec =
