@@ -26,7 +26,7 @@ fn put_spaced(out: &mut [u8], at: usize, number: u64) -> usize
     put_number(out, at + 1, number)
 }
 
-// The answer line goes to place `at` and on. The place after it comes back.
+// The answer line goes to place `at` and on. The place after it comes back. The callers keep room for the longest line.
 pub fn put_answer(
     out: &mut [u8],
     at: usize,

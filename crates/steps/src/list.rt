@@ -291,7 +291,8 @@ fn take_text(
     }
 }
 
-// A piece of the input is taken. What it prints stands at the start of the output.
+// A piece of the input is taken. What it prints stands at the start of the output. The caller lends buffers of these
+// lengths once and for all, so that no piece can fail for want of room.
 pub fn take_piece(
     course: Course,
     text: &[u8],
@@ -314,7 +315,7 @@ pub fn take_piece(
     Taken { course: now, end }
 }
 
-// The input has ended: text after the last line feed is a line too.
+// The input has ended: text after the last line feed is a line too. The caller lends the same buffers.
 pub fn finish(course: Course, shelves: &mut [u8], packets: &mut [u8], out: &mut [u8]) -> usize
     requires { ⌜ Ready course × (course .number < numberMost) × (length (now shelves) ≡ shelvesSize) × (length (now packets) ≡ packetsSize) × (answerMost ≤ length (now out)) ⌝ }
     ensures { λ r. ⌜ Finished course (now (shelves .entry)) (now (packets .entry)) r (now (out .exit)) ⌝ }

@@ -48,7 +48,7 @@ fn open_all(n: u8, slots: usize, shelves: &mut [u8]) -> [Seat; 16]
     seats
 }
 
-// The session of n seats, each with a shelf of so many slots.
+// The session of n seats, each with a shelf of so many slots. The caller has found both to be in range.
 pub fn open_session(n: u8, slots: usize, shelves: &mut [u8]) -> Walk
     requires { ⌜ (n ≤ 16) × (slots ≤ slotsMost) × (length (now shelves) ≡ shelvesSize) ⌝ }
     ensures { λ r. ⌜ Bounded r × ((packets : List ℕ) → sessionIn r (now (shelves .exit)) packets ≡ opened n slots) ⌝ }
