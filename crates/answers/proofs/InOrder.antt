@@ -14,17 +14,17 @@ use Rattle.answers.specs.declared.Edit.{Edit}
 abbrev pub NoRefusal : Answer → Type 0
 NoRefusal answer = (refusal : Refusal) → Refused refusal ≡ answer → ⊥
 
-pub done-is-no-refusal : (edit : Edit) → NoRefusal (Done edit)
-done-is-no-refusal edit refusal e = let z : ◌≡◌ {A = ℕ} 0 1 = cc in omega arith
+pub done_is_no_refusal : (edit : Edit) → NoRefusal (Done edit)
+done_is_no_refusal edit refusal e = let z : ◌≡◌ {A = ℕ} 0 1 = cc in omega arith
 
-pub shelved-is-no-refusal : NoRefusal Shelved
-shelved-is-no-refusal refusal e = let z : ◌≡◌ {A = ℕ} 0 1 = cc in omega arith
+pub shelved_is_no_refusal : NoRefusal Shelved
+shelved_is_no_refusal refusal e = let z : ◌≡◌ {A = ℕ} 0 1 = cc in omega arith
 
-pub idle-is-no-refusal : NoRefusal NothingReady
-idle-is-no-refusal refusal e = let z : ◌≡◌ {A = ℕ} 0 1 = cc in omega arith
+pub idle_is_no_refusal : NoRefusal NothingReady
+idle_is_no_refusal refusal e = let z : ◌≡◌ {A = ℕ} 0 1 = cc in omega arith
 
-pub opened-is-no-refusal : NoRefusal Opened
-opened-is-no-refusal refusal e = let z : ◌≡◌ {A = ℕ} 0 1 = cc in omega arith
+pub opened_is_no_refusal : NoRefusal Opened
+opened_is_no_refusal refusal e = let z : ◌≡◌ {A = ℕ} 0 1 = cc in omega arith
 
 module _ (refusal : Refusal) (rest : List (Refusal × Bool)) (done : Answer) where
   pub refuses : (test : Bool) → test ≡ true → first_of ((refusal, test) ∷ rest) done ≡ Refused refusal
@@ -47,9 +47,9 @@ unfolding first_of
 none_left done = refl
 
 -- a number from 10 up is a refusal's
-pub from-10-is-refused : (answer : Answer) → 10 ≤ (report answer).answer → (refusal : Refusal) × (answer ≡ Refused refusal)
-from-10-is-refused Opened h = absurd (omega arith)
-from-10-is-refused (Done edit) h = absurd (omega arith)
-from-10-is-refused Shelved h = absurd (omega arith)
-from-10-is-refused NothingReady h = absurd (omega arith)
-from-10-is-refused (Refused refusal) h = (refusal, refl)
+pub from_10_is_refused : (answer : Answer) → 10 ≤ (report answer).answer → (refusal : Refusal) × (answer ≡ Refused refusal)
+from_10_is_refused Opened h = absurd (omega arith)
+from_10_is_refused (Done edit) h = absurd (omega arith)
+from_10_is_refused Shelved h = absurd (omega arith)
+from_10_is_refused NothingReady h = absurd (omega arith)
+from_10_is_refused (Refused refusal) h = (refusal, refl)

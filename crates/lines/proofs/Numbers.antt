@@ -9,52 +9,52 @@ use native.Mathlib.Omega.{arith}
 use lib.Dec.{leb}
 use lib.ListN.{length, get_or}
 use borrow.Author.Tests.{leb-true}
-use Rattle.vectors.proofs.Every.{and_both, all-at}
-use Rattle.lines.specs.Lines.{isDigit, digitsAlone, isNumber, value_of}
+use Rattle.vectors.proofs.Every.{and_both, all_at}
+use Rattle.lines.specs.Lines.{is_digit, digits_alone, is_number, value_of}
 
 -- a number of 1 to 5 digits
 pub record IsNumber (word : List ℕ) : Type 0 where
   pub some : 1 ≤ length word
   pub few : length word ≤ 5
   pub digits_low : (k : ℕ) → k < length word → 48 ≤ get_or word k 0
-  pub digits-high : (k : ℕ) → k < length word → get_or word k 0 ≤ 57
+  pub digits_high : (k : ℕ) → k < length word → get_or word k 0 ≤ 57
 
 module _ (word : List ℕ) where
-  pub number-says : isNumber word ≡ true → IsNumber word
-  unfolding isNumber digitsAlone
-  number-says e =
-      let ab = and_both (leb 1 (length word) && leb (length word) 5) (digitsAlone word) e in
+  pub number_says : is_number word ≡ true → IsNumber word
+  unfolding is_number digits_alone
+  number_says e =
+      let ab = and_both (leb 1 (length word) && leb (length word) 5) (digits_alone word) e in
       let a = and_both (leb 1 (length word)) (leb (length word) 5) ab.0 in
-      let digit : (k : ℕ) → k < length word → isDigit (get_or word k 0) ≡ true = λ k h. all-at _ (length word) k ab.1 h in
+      let digit : (k : ℕ) → k < length word → is_digit (get_or word k 0) ≡ true = λ k h. all_at _ (length word) k ab.1 h in
       record {
         some = leb-true _ _ a.0;
         few = leb-true _ _ a.1;
         digits_low = λ k h. leb-true _ _ (and_both (leb 48 (get_or word k 0)) _ (digit k h)).0;
-        digits-high = λ k h. leb-true _ _ (and_both (leb 48 (get_or word k 0)) _ (digit k h)).1;
+        digits_high = λ k h. leb-true _ _ (and_both (leb 48 (get_or word k 0)) _ (digit k h)).1;
       }
 
   -- the value of k digits has at most k digits
-  value-fits : IsNumber word → (k : ℕ) → k ≤ length word → value_of k word < 10 ^ k
+  value_fits : IsNumber word → (k : ℕ) → k ≤ length word → value_of k word < 10 ^ k
   unfolding value_of
-  value-fits n zero h = omega arith
-  value-fits n (suc k) h =
-      let less = value-fits n k (omega arith) in
-      let high = n.digits-high k (omega arith) in
+  value_fits n zero h = omega arith
+  value_fits n (suc k) h =
+      let less = value_fits n k (omega arith) in
+      let high = n.digits_high k (omega arith) in
       omega (arith, pow-suc 10 k)
 
-four-digits : (k : ℕ) → k ≤ 4 → 10 ^ k ≤ 10000
-four-digits zero h = omega arith
-four-digits (suc zero) h = omega arith
-four-digits (suc (suc zero)) h = omega arith
-four-digits (suc (suc (suc zero))) h = omega arith
-four-digits (suc (suc (suc (suc zero)))) h = omega arith
-four-digits (suc (suc (suc (suc (suc k))))) h = absurd (omega arith)
+four_digits : (k : ℕ) → k ≤ 4 → 10 ^ k ≤ 10000
+four_digits zero h = omega arith
+four_digits (suc zero) h = omega arith
+four_digits (suc (suc zero)) h = omega arith
+four_digits (suc (suc (suc zero))) h = omega arith
+four_digits (suc (suc (suc (suc zero)))) h = omega arith
+four_digits (suc (suc (suc (suc (suc k))))) h = absurd (omega arith)
 
 -- so there is room for one digit more
-pub value-has-room : (word : List ℕ) → IsNumber word → (k : ℕ) → k < length word → value_of k word < 10000
-value-has-room word n k h = let few = n.few in omega (arith, value-fits word n k (omega arith), four-digits k (omega arith))
+pub value_has_room : (word : List ℕ) → IsNumber word → (k : ℕ) → k < length word → value_of k word < 10000
+value_has_room word n k h = let few = n.few in omega (arith, value_fits word n k (omega arith), four_digits k (omega arith))
 
 -- one digit more
-pub value-more : (word : List ℕ) (k : ℕ) → value_of k word * 10 + (get_or word k 0 - 48) ≡ value_of (k + 1) word
+pub value_more : (word : List ℕ) (k : ℕ) → value_of k word * 10 + (get_or word k 0 - 48) ≡ value_of (k + 1) word
 unfolding value_of
-value-more word k = rw add-one
+value_more word k = rw add-one

@@ -1,6 +1,6 @@
 // The line that answers a step (document 01, "The step-list program").
 ghost use Rattle.std.specs.Prelude.{◌+◌, ◌≤◌, length};
-ghost use Rattle.lines.specs.AnswerLine.{decimal, spaced, answerLine, answerMost, Wrote};
+ghost use Rattle.lines.specs.AnswerLine.{decimal, spaced, answer_line, answer_most, Wrote};
 
 // The number goes to place `at` and on. The place after it comes back. The callers have found room.
 fn put_number(out: &mut [u8], at: usize, number: u64) -> usize
@@ -34,8 +34,8 @@ pub fn put_answer(
     sender: u8,
     edit: u16,
 ) -> usize
-    requires { at + answerMost ≤ length out.old }
-    ensures { Wrote out.old at (answerLine number answer sender edit) result out.new }
+    requires { at + answer_most ≤ length out.old }
+    ensures { Wrote out.old at (answer_line number answer sender edit) result out.new }
 {
     let answer_at = put_number(out, at, number);
     let sender_at = put_spaced(out, answer_at, answer as u64);

@@ -2,7 +2,7 @@
 pub mod answer;
 
 ghost use Rattle.std.specs.Prelude.{◌≡◌, true, ◌-◌, ◌≤◌};
-ghost use Rattle.lines.specs.Lines.{WordEnd, words, isDigit, digitsAlone, isNumber, number_in, isLetter, readSend, readArrival, readRelease, read_step, readOpening};
+ghost use Rattle.lines.specs.Lines.{WordEnd, words, is_digit, digits_alone, is_number, number_in, is_letter, read_send, read_arrival, read_release, read_step, read_opening};
 
 // The kind that a send line names.
 #[derive(Drop)]
@@ -41,14 +41,14 @@ fn word_end(line: &[u8]) -> usize
 }
 
 fn is_digit(byte: u8) -> bool
-    ensures { result ≡ isDigit byte }
+    ensures { result ≡ is_digit byte }
 {
     (48 <= byte) & (byte <= 57)
 }
 
 // Whether every byte is a digit.
 fn has_digits_alone(word: &[u8]) -> bool
-    ensures { result ≡ digitsAlone word.now }
+    ensures { result ≡ digits_alone word.now }
 {
     let mut ok = true;
     for k in 0..word.len() {
@@ -59,7 +59,7 @@ fn has_digits_alone(word: &[u8]) -> bool
 
 // Whether a word is a number of 1 to 5 digits.
 fn is_number(word: &[u8]) -> bool
-    ensures { result ≡ isNumber word.now }
+    ensures { result ≡ is_number word.now }
 {
     (1 <= word.len()) & (word.len() <= 5) & has_digits_alone(word)
 }
@@ -73,7 +73,7 @@ fn digit(byte: u8) -> u32
 
 // The number that a word of at most 5 digits spells. The callers have found it to be one.
 fn value_of(word: &[u8]) -> u32
-    requires { isNumber word.now ≡ true }
+    requires { is_number word.now ≡ true }
     ensures { result ≡ number_in word.now }
 {
     let mut value: u32 = 0;
@@ -85,7 +85,7 @@ fn value_of(word: &[u8]) -> u32
 
 // Whether a word is this one letter.
 fn is_letter(word: &[u8], letter: u8) -> bool
-    ensures { result ≡ isLetter letter word.now }
+    ensures { result ≡ is_letter letter word.now }
 {
     if word.len() != 1 {
         return false;
@@ -95,7 +95,7 @@ fn is_letter(word: &[u8], letter: u8) -> bool
 
 // After the letter s: a seat, and the kind's letter, which may be missing.
 fn read_send(rest: &[u8]) -> Step
-    ensures { result ≡ readSend (words rest.now) }
+    ensures { result ≡ read_send (words rest.now) }
 {
     let end = word_end(rest);
     if end == rest.len() {
@@ -124,7 +124,7 @@ fn read_send(rest: &[u8]) -> Step
 
 // After the letter a: a seat, a sender and a number.
 fn read_arrival(rest: &[u8]) -> Step
-    ensures { result ≡ readArrival (words rest.now) }
+    ensures { result ≡ read_arrival (words rest.now) }
 {
     let seat_end = word_end(rest);
     if seat_end == rest.len() {
@@ -151,7 +151,7 @@ fn read_arrival(rest: &[u8]) -> Step
 
 // After the letter r: a seat.
 fn read_release(rest: &[u8]) -> Step
-    ensures { result ≡ readRelease (words rest.now) }
+    ensures { result ≡ read_release (words rest.now) }
 {
     if word_end(rest) != rest.len() {
         return Step::Unreadable;
@@ -187,7 +187,7 @@ pub fn read_step(line: &[u8]) -> Step
 
 // Line one.
 pub fn read_opening(line: &[u8]) -> Opening
-    ensures { result ≡ readOpening line.now }
+    ensures { result ≡ read_opening line.now }
 {
     let end = word_end(line);
     if end == line.len() {

@@ -9,12 +9,12 @@ use Rattle.packet.specs.declared.Kind.{Kind}
 use Rattle.packet.specs.declared.Header.{Header}
 use Rattle.packet.specs.declared.Reading.{Reading}
 
-pub read-settled : (packet : List ℕ) (one other : Reading) → one ≡ read_of packet → other ≡ read_of packet → one ≡ other
-read-settled packet one other a b = a ∙ sym b
+pub read_settled : (packet : List ℕ) (one other : Reading) → one ≡ read_of packet → other ≡ read_of packet → one ≡ other
+read_settled packet one other a b = a ∙ sym b
 
-pub body-settled : (packet one other : List ℕ) → one ≡ body_of packet → other ≡ body_of packet → one ≡ other
-body-settled packet one other a b = a ∙ sym b
+pub body_settled : (packet one other : List ℕ) → one ≡ body_of packet → other ≡ body_of packet → one ≡ other
+body_settled packet one other a b = a ∙ sym b
 
-pub write-settled : (kind : Kind) (header : Header) (past barrier body out : List ℕ) (one other : Answer) (after after-other : List ℕ)
+pub write_settled : (kind : Kind) (header : Header) (past barrier body out : List ℕ) (one other : Answer) (after after-other : List ℕ)
     → Written kind header past barrier body out one after → Written kind header past barrier body out other after-other → (one ≡ other) × (after ≡ after-other)
-write-settled kind header past barrier body out one other after after-other a b = (a.answered ∙ sym b.answered, a.output ∙ sym b.output)
+write_settled kind header past barrier body out one other after after-other a b = (a.answered ∙ sym b.answered, a.output ∙ sym b.output)

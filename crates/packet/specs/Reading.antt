@@ -3,7 +3,7 @@ use Rattle.std.specs.Prelude.{ℕ, cond, List, [], drop}
 use Rattle.answers.specs.Answers.{refusalNumber}
 use Rattle.answers.specs.declared.Refusal.TheVariants.{NotWellFormed}
 use Rattle.vectors.specs.Vectors.{zeros}
-use Rattle.packet.specs.Packet.{seatsOf, senderOf, kind_of, past_of, barrierOf, body_at, wellFormed}
+use Rattle.packet.specs.Packet.{seats_of, sender_of, kind_of, past_of, barrier_of, body_at, well_formed}
 use Rattle.packet.specs.declared.Kind.{Kind}
 use Rattle.packet.specs.declared.Header.{Header}
 use Rattle.packet.specs.declared.Heading.{Heading}
@@ -15,8 +15,8 @@ use Rattle.packet.specs.declared.Reading.{Reading}
 abbrev pub headed : Kind → Header → Heading
 headed kind header = record { n = header.n; sender = header.sender; kind = kind }
 
-abbrev pub headerIn : Heading → Header
-headerIn heading = record { n = heading.n; sender = heading.sender }
+abbrev pub header_in : Heading → Header
+header_in heading = record { n = heading.n; sender = heading.sender }
 
 -- A refusal: both vectors are all 0.
 abbrev pub refused : Reading
@@ -26,18 +26,18 @@ refused = record { answer = Refused; past = zeros; barrier = zeros }
 abbrev pub message : Kind → Header → List ℕ → List ℕ → Reading
 message kind header past barrier = record { answer = Packet (headed kind header); past = past; barrier = barrier }
 
-abbrev pub headerOf : List ℕ → Header
-headerOf packet = record { n = seatsOf packet; sender = senderOf packet }
+abbrev pub header_of : List ℕ → Header
+header_of packet = record { n = seats_of packet; sender = sender_of packet }
 
 -- Reading answers what a well formed packet says, or a refusal.
 unfoldable pub read_of : List ℕ → Reading
-read_of packet = cond (wellFormed packet) (message (kind_of packet) (headerOf packet) (past_of packet) (barrierOf packet)) refused
+read_of packet = cond (well_formed packet) (message (kind_of packet) (header_of packet) (past_of packet) (barrier_of packet)) refused
 
 -- The body is what stands after barrier; empty on a refusal.
 unfoldable pub body_of : List ℕ → List ℕ
-body_of packet = cond (wellFormed packet) (drop (body_at (seatsOf packet)) packet) []
+body_of packet = cond (well_formed packet) (drop (body_at (seats_of packet)) packet) []
 
 -- Document 01's number of each case.
-abbrev pub readNumber : ReadAnswer → ℕ
-readNumber Refused = refusalNumber NotWellFormed
-readNumber (Packet heading) = 0
+abbrev pub read_number : ReadAnswer → ℕ
+read_number Refused = refusalNumber NotWellFormed
+read_number (Packet heading) = 0

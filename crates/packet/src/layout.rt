@@ -1,8 +1,8 @@
 // The packet's bytes, put down part by part.
 ghost use Rattle.std.specs.Prelude.{◌≡◌, ◌≤◌, true, length};
 ghost use Rattle.std.proofs.lemmas.List.Edits.{sets};
-ghost use Rattle.packet.specs.Packet.{headLen, bodyMost, packetLength};
-ghost use Rattle.packet.specs.Writing.{in_range, bit_of, head_of, packetOf};
+ghost use Rattle.packet.specs.Packet.{head_len, body_most, packet_length};
+ghost use Rattle.packet.specs.Writing.{in_range, bit_of, head_of, packet_of};
 
 use super::{HEAD_LEN, Header, Kind};
 use vectors::bytes::{put_bytes, put_fields};
@@ -18,7 +18,7 @@ fn bit_of(kind: Kind) -> u8
 
 // Version and n - 1; sender - 1 and the kind; the body's length.
 fn put_head(kind: Kind, header: Header, body: usize, out: &mut [u8])
-    requires { (in_range header ≡ true) × (body ≤ bodyMost) × (headLen ≤ length out.old) }
+    requires { (in_range header ≡ true) × (body ≤ body_most) × (head_len ≤ length out.old) }
     ensures { out.new ≡ sets out.old 0 (head_of kind header body) }
 {
     let bit = bit_of(kind);
@@ -38,8 +38,8 @@ pub fn put_packet(
     body: &[u8],
     out: &mut [u8],
 )
-    requires { (in_range header ≡ true) × (length body.now ≤ bodyMost) × (packetLength header.n (length body.now) ≤ length out.old) }
-    ensures { out.new ≡ sets out.old 0 (packetOf kind header past barrier body.now) }
+    requires { (in_range header ≡ true) × (length body.now ≤ body_most) × (packet_length header.n (length body.now) ≤ length out.old) }
+    ensures { out.new ≡ sets out.old 0 (packet_of kind header past barrier body.now) }
 {
     let seats = header.n as usize;
     put_head(kind, header, body.len(), out);

@@ -1,7 +1,7 @@
 // The eight points of well-formedness (document 01, "Packet"), and whether a message can be written.
 ghost use Rattle.std.specs.Prelude.{◌≡◌, ◌≤◌, ◌<◌, ◌-◌};
 ghost use Rattle.vectors.specs.Vectors.{entry};
-ghost use Rattle.packet.specs.Packet.{kindBit, headPoint, vectorsPoint, less_one, pointSeven};
+ghost use Rattle.packet.specs.Packet.{kind_bit, head_point, vectors_point, less_one, point_seven};
 ghost use Rattle.packet.specs.Writing.{in_range, writable};
 
 use super::{BODY_MOST, HEAD_LEN, Header, Kind};
@@ -10,7 +10,7 @@ use vectors::{is_same, is_within, is_zero_above};
 
 // Points 1 to 6: the first that fails, or 0.
 pub fn head_point(packet: &[u8]) -> u8
-    ensures { result ≡ headPoint packet.now }
+    ensures { result ≡ head_point packet.now }
 {
     if packet.len() < HEAD_LEN {
         return 1;
@@ -39,7 +39,7 @@ pub fn head_point(packet: &[u8]) -> u8
 }
 
 pub fn kind_of(second: u8) -> Kind
-    ensures { result ≡ kindBit second }
+    ensures { result ≡ kind_bit second }
 {
     if second / 8 % 2 == 1 {
         Kind::Causal
@@ -61,7 +61,7 @@ fn less_one(v: [u16; 16], sender: SeatNo) -> [u16; 16]
 
 fn is_ordered(sender: SeatNo, past: [u16; 16], barrier: [u16; 16]) -> bool
     requires { (1 ≤ sender.0) × (sender.0 ≤ 16) }
-    ensures { result ≡ pointSeven sender past barrier }
+    ensures { result ≡ point_seven sender past barrier }
 {
     let at = (sender.0 - 1) as usize;
     is_within(barrier, past) & (barrier[at] < past[at])
@@ -70,7 +70,7 @@ fn is_ordered(sender: SeatNo, past: [u16; 16], barrier: [u16; 16]) -> bool
 // Points 7 and 8: the first that fails, or 0.
 pub fn vectors_point(kind: Kind, sender: SeatNo, past: [u16; 16], barrier: [u16; 16]) -> u8
     requires { (1 ≤ sender.0) × (sender.0 ≤ 16) }
-    ensures { result ≡ vectorsPoint kind sender past barrier }
+    ensures { result ≡ vectors_point kind sender past barrier }
 {
     if !is_ordered(sender, past, barrier) {
         return 7;

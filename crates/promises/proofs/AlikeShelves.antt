@@ -7,18 +7,18 @@ use native.Mathlib.Omega.{arith}
 use lib.Dec.{leb, ltb, eqb}
 use Rattle.answers.specs.declared.SeatNo.{SeatNo}
 use Rattle.vectors.specs.Vectors.{all}
-use Rattle.packet.specs.Packet.{senderOf, barrierOf}
+use Rattle.packet.specs.Packet.{sender_of, barrier_of}
 use Rattle.packet.specs.Reading.{read_of}
-use Rattle.shelf.specs.Shelf.{slotSize, slots, wholeSlots, isFree, lowest, lowestFree}
-use Rattle.seat.specs.State.{soundState}
-use Rattle.seat.specs.Stock.{packetAt, number_of, passes, soundSlot, isEdit, onSlots, onShelf, distinct, soundSlots, soundShelf}
+use Rattle.shelf.specs.Shelf.{slot_size, slots, whole_slots, is_free, lowest, lowest_free}
+use Rattle.seat.specs.State.{sound_state}
+use Rattle.seat.specs.Stock.{packet_at, number_of, passes, sound_slot, is_edit, on_slots, on_shelf, distinct, sound_slots, sound_shelf}
 use Rattle.seat.specs.HandingOver.{ready}
-use Rattle.seat.specs.Arriving.{soundBoth}
-use Rattle.seat.specs.Releasing.{readyAt, noLater, comesFirst, chosen}
+use Rattle.seat.specs.Arriving.{sound_both}
+use Rattle.seat.specs.Releasing.{ready_at, no_later, comes_first, chosen}
 use Rattle.seat.specs.declared.Seat.{Seat}
-use Rattle.seat.proofs.Chosen.{ready-slot-is-used}
+use Rattle.seat.proofs.Chosen.{ready_slot_is_used}
 use Rattle.promises.specs.BodyUnread.{Alike, AlikeShelves}
-use Rattle.promises.proofs.AlikePackets.{same-sender, same_number, same-barrier, same-reading}
+use Rattle.promises.proofs.AlikePackets.{same_sender, same_number, same_barrier, same_reading}
 
 -- ---- tests that agree
 
@@ -35,117 +35,117 @@ unfolding all
 all_same zero f g each = refl
 all_same (suc n) f g each = λ i. all_same n f g (λ k h. each k (omega arith)) i && each n (omega arith) i
 
-lowest-same : (n : ℕ) (f g : ℕ → Bool) → ((k : ℕ) → k < n → f k ≡ g k) → lowest n f ≡ lowest n g
+lowest_same : (n : ℕ) (f g : ℕ → Bool) → ((k : ℕ) → k < n → f k ≡ g k) → lowest n f ≡ lowest n g
 unfolding lowest
-lowest-same zero f g each = refl
-lowest-same (suc n) f g each =
-    λ i. cond (each 0 (omega arith) i) 0 (suc (lowest-same n (λ k. f (suc k)) (λ k. g (suc k)) (λ k h. each (suc k) (omega arith)) i))
+lowest_same zero f g each = refl
+lowest_same (suc n) f g each =
+    λ i. cond (each 0 (omega arith) i) 0 (suc (lowest_same n (λ k. f (suc k)) (λ k. g (suc k)) (λ k h. each (suc k) (omega arith)) i))
 
-not-false : (a : Bool) → not a ≡ false → a ≡ true
-not-false true e = refl
-not-false false e = absurd (true≢false e)
+not_false : (a : Bool) → not a ≡ false → a ≡ true
+not_false true e = refl
+not_false false e = absurd (true≢false e)
 
-not-true : (a : Bool) → not a ≡ true → a ≡ false
-not-true true e = absurd (true≢false (sym e))
-not-true false e = refl
+not_true : (a : Bool) → not a ≡ true → a ≡ false
+not_true true e = absurd (true≢false (sym e))
+not_true false e = refl
 
 -- ---- shelves
 
 module _ (one other : List ℕ) (alike : AlikeShelves one other) where
-  pub same-slots : slots one ≡ slots other
-  same-slots = ap (λ (n : ℕ). n / slotSize) alike.same_length
+  pub same_slots : slots one ≡ slots other
+  same_slots = ap (λ (n : ℕ). n / slot_size) alike.same_length
 
-  packets : (i : ℕ) → i < slots one → isFree one i ≡ false → Alike (packetAt one i) (packetAt other i)
-  packets = alike.same-packets
+  packets : (i : ℕ) → i < slots one → is_free one i ≡ false → Alike (packet_at one i) (packet_at other i)
+  packets = alike.same_packets
 
-  same_whole : wholeSlots one ≡ wholeSlots other
-  unfolding wholeSlots
-  same_whole = ap (λ (n : ℕ). eqb (n % slotSize) 0 && leb (n / slotSize) 32) alike.same_length
+  same_whole : whole_slots one ≡ whole_slots other
+  unfolding whole_slots
+  same_whole = ap (λ (n : ℕ). eqb (n % slot_size) 0 && leb (n / slot_size) 32) alike.same_length
 
-  same-is-edit : (i : ℕ) → i < slots one → isFree one i ≡ false → (sender : SeatNo) (number : ℕ)
-      → isEdit (packetAt one i) sender number ≡ isEdit (packetAt other i) sender number
-  unfolding isEdit
-  same-is-edit i there used sender number =
+  same_is_edit : (i : ℕ) → i < slots one → is_free one i ≡ false → (sender : SeatNo) (number : ℕ)
+      → is_edit (packet_at one i) sender number ≡ is_edit (packet_at other i) sender number
+  unfolding is_edit
+  same_is_edit i there used sender number =
       λ j.
-      eqb (same-sender (packetAt one i) (packetAt other i) (packets i there used) j).0 sender.0
-      && eqb (same_number (packetAt one i) (packetAt other i) (packets i there used) j) number
+      eqb (same_sender (packet_at one i) (packet_at other i) (packets i there used) j).0 sender.0
+      && eqb (same_number (packet_at one i) (packet_at other i) (packets i there used) j) number
 
-  same-on-slots : (n : ℕ) → n ≤ slots one → (sender : SeatNo) (number : ℕ) → onSlots n one sender number ≡ onSlots n other sender number
-  unfolding onSlots
-  same-on-slots n most sender number =
+  same_on_slots : (n : ℕ) → n ≤ slots one → (sender : SeatNo) (number : ℕ) → on_slots n one sender number ≡ on_slots n other sender number
+  unfolding on_slots
+  same_on_slots n most sender number =
       ap not
-      (all_same n (λ i. isFree one i || not (isEdit (packetAt one i) sender number)) (λ i. isFree other i || not (isEdit (packetAt other i) sender number))
+      (all_same n (λ i. is_free one i || not (is_edit (packet_at one i) sender number)) (λ i. is_free other i || not (is_edit (packet_at other i) sender number))
       (λ i below.
       let there : i < slots one = omega arith in
-      or_same (isFree one i) (isFree other i) (not (isEdit (packetAt one i) sender number)) (not (isEdit (packetAt other i) sender number)) (alike.same-free i there)
-      (λ used. ap not (same-is-edit i there used sender number))))
+      or_same (is_free one i) (is_free other i) (not (is_edit (packet_at one i) sender number)) (not (is_edit (packet_at other i) sender number)) (alike.same_free i there)
+      (λ used. ap not (same_is_edit i there used sender number))))
 
-  pub same-on-shelf : (sender : SeatNo) (number : ℕ) → onShelf one sender number ≡ onShelf other sender number
-  same-on-shelf sender number = same-on-slots (slots one) (omega arith) sender number ∙ ap (λ (n : ℕ). onSlots n other sender number) same-slots
+  pub same_on_shelf : (sender : SeatNo) (number : ℕ) → on_shelf one sender number ≡ on_shelf other sender number
+  same_on_shelf sender number = same_on_slots (slots one) (omega arith) sender number ∙ ap (λ (n : ℕ). on_slots n other sender number) same_slots
 
-  pub same-lowest-free : lowestFree one ≡ lowestFree other
-  same-lowest-free = lowest-same (slots one) (isFree one) (isFree other) alike.same-free ∙ ap (λ (n : ℕ). lowest n (isFree other)) same-slots
+  pub same_lowest_free : lowest_free one ≡ lowest_free other
+  same_lowest_free = lowest_same (slots one) (is_free one) (is_free other) alike.same_free ∙ ap (λ (n : ℕ). lowest n (is_free other)) same_slots
 
   module _ (seat : Seat) where
-    same-sound-slots : soundSlots (slots one) seat one ≡ soundSlots (slots one) seat other
-    unfolding soundSlots distinct
-    same-sound-slots =
+    same_sound_slots : sound_slots (slots one) seat one ≡ sound_slots (slots one) seat other
+    unfolding sound_slots distinct
+    same_sound_slots =
         λ i.
-        all_same (slots one) (soundSlot seat one) (soundSlot seat other)
+        all_same (slots one) (sound_slot seat one) (sound_slot seat other)
         (λ k there.
-        or_same (isFree one k) (isFree other k) (passes seat (read_of (packetAt one k))) (passes seat (read_of (packetAt other k))) (alike.same-free k there)
-        (λ used. ap (passes seat) (same-reading (packetAt one k) (packetAt other k) (packets k there used))))
+        or_same (is_free one k) (is_free other k) (passes seat (read_of (packet_at one k))) (passes seat (read_of (packet_at other k))) (alike.same_free k there)
+        (λ used. ap (passes seat) (same_reading (packet_at one k) (packet_at other k) (packets k there used))))
         i
-        && all_same (slots one) (λ j. isFree one j || not (onSlots j one (senderOf (packetAt one j)) (number_of (packetAt one j))))
-        (λ j. isFree other j || not (onSlots j other (senderOf (packetAt other j)) (number_of (packetAt other j))))
+        && all_same (slots one) (λ j. is_free one j || not (on_slots j one (sender_of (packet_at one j)) (number_of (packet_at one j))))
+        (λ j. is_free other j || not (on_slots j other (sender_of (packet_at other j)) (number_of (packet_at other j))))
         (λ j there.
-        or_same (isFree one j) (isFree other j) (not (onSlots j one (senderOf (packetAt one j)) (number_of (packetAt one j))))
-        (not (onSlots j other (senderOf (packetAt other j)) (number_of (packetAt other j)))) (alike.same-free j there)
+        or_same (is_free one j) (is_free other j) (not (on_slots j one (sender_of (packet_at one j)) (number_of (packet_at one j))))
+        (not (on_slots j other (sender_of (packet_at other j)) (number_of (packet_at other j)))) (alike.same_free j there)
         (λ used.
         ap not
-        (same-on-slots j (omega arith) (senderOf (packetAt one j)) (number_of (packetAt one j))
+        (same_on_slots j (omega arith) (sender_of (packet_at one j)) (number_of (packet_at one j))
         ∙ (λ d.
-        onSlots j other (same-sender (packetAt one j) (packetAt other j) (packets j there used) d)
-        (same_number (packetAt one j) (packetAt other j) (packets j there used) d)))))
+        on_slots j other (same_sender (packet_at one j) (packet_at other j) (packets j there used) d)
+        (same_number (packet_at one j) (packet_at other j) (packets j there used) d)))))
         i
 
-    pub same-sound : soundBoth seat one ≡ soundBoth seat other
-    unfolding soundShelf
-    same-sound =
-        λ i. soundState seat && (same_whole i && (same-sound-slots ∙ ap (λ (n : ℕ). soundSlots n seat other) same-slots) i)
+    pub same_sound : sound_both seat one ≡ sound_both seat other
+    unfolding sound_shelf
+    same_sound =
+        λ i. sound_state seat && (same_whole i && (same_sound_slots ∙ ap (λ (n : ℕ). sound_slots n seat other) same_slots) i)
 
-    same-ready-at : (i : ℕ) → i < slots one → readyAt seat one i ≡ readyAt seat other i
-    unfolding readyAt
-    same-ready-at i there =
-        and_same (not (isFree one i)) (not (isFree other i)) (ready seat (barrierOf (packetAt one i))) (ready seat (barrierOf (packetAt other i)))
-        (ap not (alike.same-free i there))
-        (λ used. ap (ready seat) (same-barrier (packetAt one i) (packetAt other i) (packets i there (not-true (isFree one i) used))))
+    same_ready_at : (i : ℕ) → i < slots one → ready_at seat one i ≡ ready_at seat other i
+    unfolding ready_at
+    same_ready_at i there =
+        and_same (not (is_free one i)) (not (is_free other i)) (ready seat (barrier_of (packet_at one i))) (ready seat (barrier_of (packet_at other i)))
+        (ap not (alike.same_free i there))
+        (λ used. ap (ready seat) (same_barrier (packet_at one i) (packet_at other i) (packets i there (not_true (is_free one i) used))))
 
-    same-no-later : (i j : ℕ) → i < slots one → j < slots one → isFree one i ≡ false → isFree one j ≡ false
-        → noLater (packetAt one i) (packetAt one j) ≡ noLater (packetAt other i) (packetAt other j)
-    unfolding noLater
-    same-no-later i j there here used also =
+    same_no_later : (i j : ℕ) → i < slots one → j < slots one → is_free one i ≡ false → is_free one j ≡ false
+        → no_later (packet_at one i) (packet_at one j) ≡ no_later (packet_at other i) (packet_at other j)
+    unfolding no_later
+    same_no_later i j there here used also =
         let p = packets i there used in
         let q = packets j here also in
         λ d.
-        ltb (same-sender (packetAt one i) (packetAt other i) p d).0 (same-sender (packetAt one j) (packetAt other j) q d).0
-        || (eqb (same-sender (packetAt one i) (packetAt other i) p d).0 (same-sender (packetAt one j) (packetAt other j) q d).0
-        && leb (same_number (packetAt one i) (packetAt other i) p d) (same_number (packetAt one j) (packetAt other j) q d))
+        ltb (same_sender (packet_at one i) (packet_at other i) p d).0 (same_sender (packet_at one j) (packet_at other j) q d).0
+        || (eqb (same_sender (packet_at one i) (packet_at other i) p d).0 (same_sender (packet_at one j) (packet_at other j) q d).0
+        && leb (same_number (packet_at one i) (packet_at other i) p d) (same_number (packet_at one j) (packet_at other j) q d))
 
-    same-comes-first : (i : ℕ) → i < slots one → comesFirst (slots one) seat one i ≡ comesFirst (slots one) seat other i
-    unfolding comesFirst
-    same-comes-first i there =
-        and_same (readyAt seat one i) (readyAt seat other i) _ _ (same-ready-at i there)
+    same_comes_first : (i : ℕ) → i < slots one → comes_first (slots one) seat one i ≡ comes_first (slots one) seat other i
+    unfolding comes_first
+    same_comes_first i there =
+        and_same (ready_at seat one i) (ready_at seat other i) _ _ (same_ready_at i there)
         (λ is.
-        all_same (slots one) (λ j. not (readyAt seat one j) || noLater (packetAt one i) (packetAt one j))
-        (λ j. not (readyAt seat other j) || noLater (packetAt other i) (packetAt other j))
+        all_same (slots one) (λ j. not (ready_at seat one j) || no_later (packet_at one i) (packet_at one j))
+        (λ j. not (ready_at seat other j) || no_later (packet_at other i) (packet_at other j))
         (λ j here.
-        or_same (not (readyAt seat one j)) (not (readyAt seat other j)) (noLater (packetAt one i) (packetAt one j)) (noLater (packetAt other i) (packetAt other j))
-        (ap not (same-ready-at j here))
-        (λ also. same-no-later i j there here (ready-slot-is-used seat one i is) (ready-slot-is-used seat one j (not-false (readyAt seat one j) also)))))
+        or_same (not (ready_at seat one j)) (not (ready_at seat other j)) (no_later (packet_at one i) (packet_at one j)) (no_later (packet_at other i) (packet_at other j))
+        (ap not (same_ready_at j here))
+        (λ also. same_no_later i j there here (ready_slot_is_used seat one i is) (ready_slot_is_used seat one j (not_false (ready_at seat one j) also)))))
 
     pub same_chosen : chosen seat one ≡ chosen seat other
     unfolding chosen
     same_chosen =
-        lowest-same (slots one) (comesFirst (slots one) seat one) (comesFirst (slots one) seat other) same-comes-first
-        ∙ ap (λ (n : ℕ). lowest n (comesFirst n seat other)) same-slots
+        lowest_same (slots one) (comes_first (slots one) seat one) (comes_first (slots one) seat other) same_comes_first
+        ∙ ap (λ (n : ℕ). lowest n (comes_first n seat other)) same_slots

@@ -11,90 +11,90 @@ use Rattle.answers.specs.declared.Refusal.TheVariants.{NotSound, NotWellFormed, 
 use Rattle.answers.specs.declared.Answer.{Answer}
 use Rattle.answers.specs.declared.Answer.TheVariants.{Done, Shelved, Refused}
 use Rattle.vectors.specs.Vectors.{entry}
-use Rattle.packet.specs.Packet.{seatsOf, senderOf, past_of, barrierOf}
-use Rattle.seat.specs.State.{ownCount}
+use Rattle.packet.specs.Packet.{seats_of, sender_of, past_of, barrier_of}
+use Rattle.seat.specs.State.{own_count}
 use Rattle.seat.specs.Stock.{number_of}
-use Rattle.seat.specs.Arriving.{headingOf, repeats, editHanded, admissionRefusals, admittedAnswer, arriveAnswer}
+use Rattle.seat.specs.Arriving.{heading_of, repeats, edit_handed, admission_refusals, admitted_answer, arrive_answer}
 use Rattle.seat.specs.declared.Seat.{Seat}
-use Rattle.seat.proofs.Hearing.{heard-goes-on, refused-10, refused-14}
-use Rattle.seat.proofs.Admitting.{refused-15, refused-16, refused-17, refused-18, passes-all, ready_refused, ready-done, wait-refused, wait-shelved}
-use Rattle.promises.specs.Demand1.{answerNumber, WellFormed, Sound, SameSession, WithinOwnCount, Repeats, Near, Ready, BarrierStays, FreeSlot, Admitted, ArriveAnswers}
-use Rattle.promises.proofs.Occasions.{occasionIn, in-the-table}
-use Rattle.promises.proofs.Plain.{decided, fails, sound-agrees, formed-agrees, well-formed-agrees, repeats-agrees, ready-agrees, stays-decided, stays-is-not-above, leaves-is-above, free-or-full, full-has-no-free-slot, no-free-slot-is-full}
+use Rattle.seat.proofs.Hearing.{heard_goes_on, refused_10, refused_14}
+use Rattle.seat.proofs.Admitting.{refused_15, refused_16, refused_17, refused_18, passes_all, ready_refused, ready_done, wait_refused, wait_shelved}
+use Rattle.promises.specs.Demand1.{answer_number, WellFormed, Sound, SameSession, WithinOwnCount, Repeats, Near, Ready, BarrierStays, FreeSlot, Admitted, ArriveAnswers}
+use Rattle.promises.proofs.Occasions.{occasion_in, in_the_table}
+use Rattle.promises.proofs.Plain.{decided, fails, sound_agrees, formed_agrees, well_formed_agrees, repeats_agrees, ready_agrees, stays_decided, stays_is_not_above, leaves_is_above, free_or_full, full_has_no_free_slot, no_free_slot_is_full}
 
 module _ (seat : Seat) (shelf packet : List ℕ) where
   abbrev answer : Answer
-  answer = arriveAnswer seat shelf packet
+  answer = arrive_answer seat shelf packet
 
   -- ---- from the occasion to the answer
 
-  gives-10 : (Sound seat shelf → ⊥) → answer ≡ Refused NotSound
-  gives-10 bad =
+  gives_10 : (Sound seat shelf → ⊥) → answer ≡ Refused NotSound
+  gives_10 bad =
       sym
-      (refused-10 seat packet shelf (record { seat = seat; answer = Refused NotSound }) (fails _ (sound-agrees seat shelf) bad) refl refl).answered
+      (refused_10 seat packet shelf (record { seat = seat; answer = Refused NotSound }) (fails _ (sound_agrees seat shelf) bad) refl refl).answered
 
-  gives-14 : Sound seat shelf → (WellFormed packet → ⊥) → answer ≡ Refused NotWellFormed
-  gives-14 sound bad =
+  gives_14 : Sound seat shelf → (WellFormed packet → ⊥) → answer ≡ Refused NotWellFormed
+  gives_14 sound bad =
       sym
-      (refused-14 seat packet shelf (record { seat = seat; answer = Refused NotWellFormed }) ((sound-agrees seat shelf).0 sound) (λ z. bad ((formed-agrees packet).1 z)) refl refl).answered
+      (refused_14 seat packet shelf (record { seat = seat; answer = Refused NotWellFormed }) ((sound_agrees seat shelf).0 sound) (λ z. bad ((formed_agrees packet).1 z)) refl refl).answered
 
   -- what an admitted arrival is answered
   abbrev settled : Answer
-  settled = admittedAnswer seat shelf (headingOf packet) (past_of packet) (barrierOf packet) (editHanded packet)
+  settled = admitted_answer seat shelf (heading_of packet) (past_of packet) (barrier_of packet) (edit_handed packet)
 
   module _ (sound : Sound seat shelf) (well : WellFormed packet) where
-    heard : answer ≡ first_of (admissionRefusals seat (headingOf packet) (past_of packet) (repeats seat shelf packet)) settled
-    heard = heard-goes-on seat shelf packet ((sound-agrees seat shelf).0 sound) ((formed-agrees packet).0 well)
+    heard : answer ≡ first_of (admission_refusals seat (heading_of packet) (past_of packet) (repeats seat shelf packet)) settled
+    heard = heard_goes_on seat shelf packet ((sound_agrees seat shelf).0 sound) ((formed_agrees packet).0 well)
 
-    gives-15 : (SameSession seat packet → ⊥) → answer ≡ Refused OtherSession
-    gives-15 other = heard ∙ refused-15 seat (headingOf packet) (past_of packet) (repeats seat shelf packet) settled other
+    gives_15 : (SameSession seat packet → ⊥) → answer ≡ Refused OtherSession
+    gives_15 other = heard ∙ refused_15 seat (heading_of packet) (past_of packet) (repeats seat shelf packet) settled other
 
     module _ (same : SameSession seat packet) where
-      gives-16 : (WithinOwnCount seat packet → ⊥) → answer ≡ Refused AboveOwnCount
-      gives-16 above =
-          let more : ownCount seat < entry (past_of packet) seat.own =
-          elim (dec_lt (ownCount seat) (entry (past_of packet) seat.own)) [ yes is ↦ is | no less ↦ absurd (above (omega arith)) ] in
-          heard ∙ refused-16 seat (headingOf packet) (past_of packet) (repeats seat shelf packet) settled same (lt-ltb _ _ more)
+      gives_16 : (WithinOwnCount seat packet → ⊥) → answer ≡ Refused AboveOwnCount
+      gives_16 above =
+          let more : own_count seat < entry (past_of packet) seat.own =
+          elim (dec_lt (own_count seat) (entry (past_of packet) seat.own)) [ yes is ↦ is | no less ↦ absurd (above (omega arith)) ] in
+          heard ∙ refused_16 seat (heading_of packet) (past_of packet) (repeats seat shelf packet) settled same (lt-ltb _ _ more)
 
       module _ (own : WithinOwnCount seat packet) where
-        gives-17 : Repeats seat shelf packet → answer ≡ Refused Repeated
-        gives-17 again = heard ∙ refused-17 seat (headingOf packet) (past_of packet) (repeats seat shelf packet) settled same (le-ltb _ _ own) ((repeats-agrees seat shelf packet).0 again)
+        gives_17 : Repeats seat shelf packet → answer ≡ Refused Repeated
+        gives_17 again = heard ∙ refused_17 seat (heading_of packet) (past_of packet) (repeats seat shelf packet) settled same (le-ltb _ _ own) ((repeats_agrees seat shelf packet).0 again)
 
-        gives-18 : (Repeats seat shelf packet → ⊥) → (Near seat packet → ⊥) → answer ≡ Refused TooFarAhead
-        gives-18 new far =
-            let more : entry seat.run (senderOf packet) + 64 < number_of packet =
-            elim (dec_lt (entry seat.run (senderOf packet) + 64) (number_of packet)) [ yes is ↦ is | no less ↦ absurd (far (omega arith)) ] in
+        gives_18 : (Repeats seat shelf packet → ⊥) → (Near seat packet → ⊥) → answer ≡ Refused TooFarAhead
+        gives_18 new far =
+            let more : entry seat.run (sender_of packet) + 64 < number_of packet =
+            elim (dec_lt (entry seat.run (sender_of packet) + 64) (number_of packet)) [ yes is ↦ is | no less ↦ absurd (far (omega arith)) ] in
             heard
-            ∙ refused-18 seat (headingOf packet) (past_of packet) (repeats seat shelf packet) settled same (le-ltb _ _ own) (fails _ (repeats-agrees seat shelf packet) new)
+            ∙ refused_18 seat (heading_of packet) (past_of packet) (repeats seat shelf packet) settled same (le-ltb _ _ own) (fails _ (repeats_agrees seat shelf packet) new)
             (lt-ltb _ _ more)
 
   module _ (a : Admitted seat shelf packet) where
     admitted : answer ≡ settled
     admitted =
-        heard a.sound a.well-formed
-        ∙ passes-all seat (headingOf packet) (past_of packet) (repeats seat shelf packet) settled a.same-session (le-ltb _ _ a.within-own-count)
-        (fails _ (repeats-agrees seat shelf packet) a.new) (le-ltb _ _ a.near)
+        heard a.sound a.is_well_formed
+        ∙ passes_all seat (heading_of packet) (past_of packet) (repeats seat shelf packet) settled a.same_session (le-ltb _ _ a.within_own_count)
+        (fails _ (repeats_agrees seat shelf packet) a.new) (le-ltb _ _ a.near)
 
-    gives-23 : Ready seat packet → (BarrierStays seat packet → ⊥) → answer ≡ Refused BarrierAbovePast
-    gives-23 now leaves =
+    gives_23 : Ready seat packet → (BarrierStays seat packet → ⊥) → answer ≡ Refused BarrierAbovePast
+    gives_23 now leaves =
         admitted
-        ∙ ready_refused seat shelf (headingOf packet) (past_of packet) (barrierOf packet) (editHanded packet) ((ready-agrees seat packet).0 now) (leaves-is-above seat packet leaves)
+        ∙ ready_refused seat shelf (heading_of packet) (past_of packet) (barrier_of packet) (edit_handed packet) ((ready_agrees seat packet).0 now) (leaves_is_above seat packet leaves)
 
-    pub ready-arrival-is-done : Ready seat packet → BarrierStays seat packet → answer ≡ Done (editHanded packet)
-    ready-arrival-is-done now stays =
+    pub ready_arrival_is_done : Ready seat packet → BarrierStays seat packet → answer ≡ Done (edit_handed packet)
+    ready_arrival_is_done now stays =
         admitted
-        ∙ ready-done seat shelf (headingOf packet) (past_of packet) (barrierOf packet) (editHanded packet) ((ready-agrees seat packet).0 now) (stays-is-not-above seat packet stays)
+        ∙ ready_done seat shelf (heading_of packet) (past_of packet) (barrier_of packet) (edit_handed packet) ((ready_agrees seat packet).0 now) (stays_is_not_above seat packet stays)
 
-    gives-19 : (Ready seat packet → ⊥) → (FreeSlot shelf → ⊥) → answer ≡ Refused ShelfFull
-    gives-19 waits none =
+    gives_19 : (Ready seat packet → ⊥) → (FreeSlot shelf → ⊥) → answer ≡ Refused ShelfFull
+    gives_19 waits none =
         admitted
-        ∙ wait-refused seat shelf (headingOf packet) (past_of packet) (barrierOf packet) (editHanded packet) (fails _ (ready-agrees seat packet) waits) (no-free-slot-is-full shelf none)
+        ∙ wait_refused seat shelf (heading_of packet) (past_of packet) (barrier_of packet) (edit_handed packet) (fails _ (ready_agrees seat packet) waits) (no_free_slot_is_full shelf none)
 
-    pub waiting-arrival-is-shelved : (Ready seat packet → ⊥) → FreeSlot shelf → answer ≡ Shelved
-    waiting-arrival-is-shelved waits free =
+    pub waiting_arrival_is_shelved : (Ready seat packet → ⊥) → FreeSlot shelf → answer ≡ Shelved
+    waiting_arrival_is_shelved waits free =
         admitted
-        ∙ wait-shelved seat shelf (headingOf packet) (past_of packet) (barrierOf packet) (editHanded packet) (fails _ (ready-agrees seat packet) waits)
-        (λ full. full-has-no-free-slot shelf full free)
+        ∙ wait_shelved seat shelf (heading_of packet) (past_of packet) (barrier_of packet) (edit_handed packet) (fails _ (ready_agrees seat packet) waits)
+        (λ full. full_has_no_free_slot shelf full free)
 
   -- ---- from the answer to the occasion
 
@@ -114,71 +114,71 @@ module _ (seat : Seat) (shelf packet : List ℕ) where
       ∷ []
 
   abbrev occasion : ℕ → Type 0
-  occasion k = occasionIn table k
+  occasion k = occasion_in table k
 
-  by-shelf : Admitted seat shelf packet → (Ready seat packet → ⊥) → occasion (answerNumber answer)
-  by-shelf a waits =
-      elim (free-or-full shelf) [
-        | inl free ↦ subst occasion (sym (ap answerNumber (waiting-arrival-is-shelved a waits free))) (a, waits, free)
-        | inr full ↦ let none = full-has-no-free-slot shelf full in subst occasion (sym (ap answerNumber (gives-19 a waits none))) (a, waits, none)
+  by_shelf : Admitted seat shelf packet → (Ready seat packet → ⊥) → occasion (answer_number answer)
+  by_shelf a waits =
+      elim (free_or_full shelf) [
+        | inl free ↦ subst occasion (sym (ap answer_number (waiting_arrival_is_shelved a waits free))) (a, waits, free)
+        | inr full ↦ let none = full_has_no_free_slot shelf full in subst occasion (sym (ap answer_number (gives_19 a waits none))) (a, waits, none)
       ]
 
-  by-barrier : Admitted seat shelf packet → Ready seat packet → occasion (answerNumber answer)
-  by-barrier a now =
-      elim (stays-decided seat packet) [
-        | inl stays ↦ subst occasion (sym (ap answerNumber (ready-arrival-is-done a now stays))) (a, now, stays)
-        | inr leaves ↦ subst occasion (sym (ap answerNumber (gives-23 a now leaves))) (a, now, leaves)
+  by_barrier : Admitted seat shelf packet → Ready seat packet → occasion (answer_number answer)
+  by_barrier a now =
+      elim (stays_decided seat packet) [
+        | inl stays ↦ subst occasion (sym (ap answer_number (ready_arrival_is_done a now stays))) (a, now, stays)
+        | inr leaves ↦ subst occasion (sym (ap answer_number (gives_23 a now leaves))) (a, now, leaves)
       ]
 
-  by-ready : Admitted seat shelf packet → occasion (answerNumber answer)
-  by-ready a = elim (decided _ (ready-agrees seat packet)) [ inl now ↦ by-barrier a now | inr waits ↦ by-shelf a waits ]
+  by_ready : Admitted seat shelf packet → occasion (answer_number answer)
+  by_ready a = elim (decided _ (ready_agrees seat packet)) [ inl now ↦ by_barrier a now | inr waits ↦ by_shelf a waits ]
 
   module _ (sound : Sound seat shelf) (well : WellFormed packet) where
-    by_number : SameSession seat packet → WithinOwnCount seat packet → occasion (answerNumber answer)
+    by_number : SameSession seat packet → WithinOwnCount seat packet → occasion (answer_number answer)
     by_number same own =
-        elim (decided _ (repeats-agrees seat shelf packet)) [
-          | inl again ↦ subst occasion (sym (ap answerNumber (gives-17 sound well same own again))) (sound, well, same, own, again)
-          | inr new ↦ elim (dec_lt (entry seat.run (senderOf packet) + 64) (number_of packet)) [
+        elim (decided _ (repeats_agrees seat shelf packet)) [
+          | inl again ↦ subst occasion (sym (ap answer_number (gives_17 sound well same own again))) (sound, well, same, own, again)
+          | inr new ↦ elim (dec_lt (entry seat.run (sender_of packet) + 64) (number_of packet)) [
             | yes far ↦ let never : Near seat packet → ⊥ = λ near. omega arith in
-                subst occasion (sym (ap answerNumber (gives-18 sound well same own new never))) (sound, well, same, own, new, never)
-            | no less ↦ by-ready (record { sound = sound; well-formed = well; same-session = same; within-own-count = own; new = new; near = omega arith })
+                subst occasion (sym (ap answer_number (gives_18 sound well same own new never))) (sound, well, same, own, new, never)
+            | no less ↦ by_ready (record { sound = sound; is_well_formed = well; same_session = same; within_own_count = own; new = new; near = omega arith })
           ]
         ]
 
-    by_count : SameSession seat packet → occasion (answerNumber answer)
+    by_count : SameSession seat packet → occasion (answer_number answer)
     by_count same =
-        elim (dec_lt (ownCount seat) (entry (past_of packet) seat.own)) [
+        elim (dec_lt (own_count seat) (entry (past_of packet) seat.own)) [
           | yes more ↦ let above : WithinOwnCount seat packet → ⊥ = λ own. omega arith in
-              subst occasion (sym (ap answerNumber (gives-16 sound well same above))) (sound, well, same, above)
+              subst occasion (sym (ap answer_number (gives_16 sound well same above))) (sound, well, same, above)
           | no less ↦ by_number same (omega arith)
         ]
 
-    by-session : occasion (answerNumber answer)
-    by-session =
-        elim (ℕ_discrete (seatsOf packet) seat.n) [
+    by_session : occasion (answer_number answer)
+    by_session =
+        elim (ℕ_discrete (seats_of packet) seat.n) [
           | yes same ↦ by_count same
-          | no other ↦ subst occasion (sym (ap answerNumber (gives-15 sound well other))) (sound, well, other)
+          | no other ↦ subst occasion (sym (ap answer_number (gives_15 sound well other))) (sound, well, other)
         ]
 
-  by_form : Sound seat shelf → occasion (answerNumber answer)
+  by_form : Sound seat shelf → occasion (answer_number answer)
   by_form sound =
-      elim (decided _ (well-formed-agrees packet)) [ inl well ↦ by-session sound well | inr bad ↦ subst occasion (sym (ap answerNumber (gives-14 sound bad))) (sound, bad) ]
+      elim (decided _ (well_formed_agrees packet)) [ inl well ↦ by_session sound well | inr bad ↦ subst occasion (sym (ap answer_number (gives_14 sound bad))) (sound, bad) ]
 
-  tells : occasion (answerNumber answer)
-  tells = elim (decided _ (sound-agrees seat shelf)) [ inl sound ↦ by_form sound | inr bad ↦ subst occasion (sym (ap answerNumber (gives-10 bad))) bad ]
+  tells : occasion (answer_number answer)
+  tells = elim (decided _ (sound_agrees seat shelf)) [ inl sound ↦ by_form sound | inr bad ↦ subst occasion (sym (ap answer_number (gives_10 bad))) bad ]
 
-  pub arrive-occasions : ArriveAnswers seat shelf packet
-  arrive-occasions =
+  pub arrive_occasions : ArriveAnswers seat shelf packet
+  arrive_occasions =
       record {
-        is-10 = (λ e. subst occasion e tells, λ bad. ap answerNumber (gives-10 bad));
-        is-14 = (λ e. subst occasion e tells, λ f. ap answerNumber (gives-14 f.0 f.1));
-        is-15 = (λ e. subst occasion e tells, λ f. ap answerNumber (gives-15 f.0 f.1 f.2));
-        is-16 = (λ e. subst occasion e tells, λ f. ap answerNumber (gives-16 f.0 f.1 f.2 f.3));
-        is-17 = (λ e. subst occasion e tells, λ f. ap answerNumber (gives-17 f.0 f.1 f.2 f.3 f.4));
-        is-18 = (λ e. subst occasion e tells, λ f. ap answerNumber (gives-18 f.0 f.1 f.2 f.3 f.4 f.5));
-        is-23 = (λ e. subst occasion e tells, λ f. ap answerNumber (gives-23 f.0 f.1 f.2));
-        is-19 = (λ e. subst occasion e tells, λ f. ap answerNumber (gives-19 f.0 f.1 f.2));
-        is-0 = (λ e. subst occasion e tells, λ f. ap answerNumber (ready-arrival-is-done f.0 f.1 f.2));
-        is-1 = (λ e. subst occasion e tells, λ f. ap answerNumber (waiting-arrival-is-shelved f.0 f.1 f.2));
-        no_other = in-the-table table (answerNumber answer) tells;
+        is_10 = (λ e. subst occasion e tells, λ bad. ap answer_number (gives_10 bad));
+        is_14 = (λ e. subst occasion e tells, λ f. ap answer_number (gives_14 f.0 f.1));
+        is_15 = (λ e. subst occasion e tells, λ f. ap answer_number (gives_15 f.0 f.1 f.2));
+        is_16 = (λ e. subst occasion e tells, λ f. ap answer_number (gives_16 f.0 f.1 f.2 f.3));
+        is_17 = (λ e. subst occasion e tells, λ f. ap answer_number (gives_17 f.0 f.1 f.2 f.3 f.4));
+        is_18 = (λ e. subst occasion e tells, λ f. ap answer_number (gives_18 f.0 f.1 f.2 f.3 f.4 f.5));
+        is_23 = (λ e. subst occasion e tells, λ f. ap answer_number (gives_23 f.0 f.1 f.2));
+        is_19 = (λ e. subst occasion e tells, λ f. ap answer_number (gives_19 f.0 f.1 f.2));
+        is_0 = (λ e. subst occasion e tells, λ f. ap answer_number (ready_arrival_is_done f.0 f.1 f.2));
+        is_1 = (λ e. subst occasion e tells, λ f. ap answer_number (waiting_arrival_is_shelved f.0 f.1 f.2));
+        no_other = in_the_table table (answer_number answer) tells;
       }

@@ -5,73 +5,73 @@ use mathlib.Core.Bool.{true≢false}
 use mathlib.Core.List.{List}
 use mathlib.Core.Logic.{inl, inr}
 use Rattle.answers.specs.declared.Edit as answers
-use Rattle.packet.specs.Packet.{senderOf, past_of, barrierOf}
-use Rattle.shelf.specs.Shelf.{slot_of, laid, lowestFree}
+use Rattle.packet.specs.Packet.{sender_of, past_of, barrier_of}
+use Rattle.shelf.specs.Shelf.{slot_of, laid, lowest_free}
 use Rattle.seat.specs.Stock.{number_of, Passing}
-use Rattle.seat.specs.HandingOver.{handOver}
-use Rattle.seat.specs.Arriving.{headingOf}
+use Rattle.seat.specs.HandingOver.{hand_over}
+use Rattle.seat.specs.Arriving.{heading_of}
 use Rattle.seat.specs.declared.Seat.{Seat}
 use Rattle.seat.proofs.ArrivalTells.{ArrivalDone, ArrivalShelved}
 use Rattle.seat.proofs.CarriedCounts.{CarriesCounts}
-use Rattle.seat.proofs.LaidShelf.{laid-packet-stands, laying-keeps-what-stood, laying-adds-one}
-use Rattle.seat.proofs.PassingStays.{passing-can-be-handed-over}
-use Rattle.seat.proofs.ShelfStaysSound.{SameEdit, not-on-shelf}
+use Rattle.seat.proofs.LaidShelf.{laid_packet_stands, laying_keeps_what_stood, laying_adds_one}
+use Rattle.seat.proofs.PassingStays.{passing_can_be_handed_over}
+use Rattle.seat.proofs.ShelfStaysSound.{SameEdit, not_on_shelf}
 use Rattle.seat.proofs.SteppingSound.{SoundPlace}
 use Rattle.session.specs.Events.{Edit}
 use Rattle.session.specs.Protocol.{edit, Takes, Shelves}
 use Rattle.promises.specs.Demand3.{Place}
-use Rattle.promises.proofs.Model.{model, MarkedAt, edit-is}
-use Rattle.promises.proofs.Readiness.{test-says-ready}
-use Rattle.promises.proofs.Learning.{handing-over-learns}
+use Rattle.promises.proofs.Model.{model, MarkedAt, edit_is}
+use Rattle.promises.proofs.Readiness.{test_says_ready}
+use Rattle.promises.proofs.Learning.{handing_over_learns}
 
 -- packets of one edit have the same sender and number
-pub one-edit-same-numbers : (one other : List ℕ) → edit model one ≡ edit model other → SameEdit one other
-one-edit-same-numbers one other same =
-    let e : ◌≡◌ {A = Edit} (record { by = (senderOf one).0; number = number_of one }) (record { by = (senderOf other).0; number = number_of other }) =
-    sym (edit-is one) ∙ same ∙ edit-is other in
+pub one_edit_same_numbers : (one other : List ℕ) → edit model one ≡ edit model other → SameEdit one other
+one_edit_same_numbers one other same =
+    let e : ◌≡◌ {A = Edit} (record { by = (sender_of one).0; number = number_of one }) (record { by = (sender_of other).0; number = number_of other }) =
+    sym (edit_is one) ∙ same ∙ edit_is other in
     (ap (λ (x : Edit). x.by) e, ap (λ (x : Edit). x.number) e)
 
 module _ (seat : Seat) (shelf packet : List ℕ) where
   abbrev before : Place
   before = record { seat = seat; shelf = shelf }
 
-  passing-is-not-marked : Passing seat packet → ¬ MarkedAt before (edit model packet)
-  passing-is-not-marked passing marked = true≢false (sym (subst (MarkedAt before) (edit-is packet) marked).is ∙ passing.not-handed)
+  passing_is_not_marked : Passing seat packet → ¬ MarkedAt before (edit model packet)
+  passing_is_not_marked passing marked = true≢false (sym (subst (MarkedAt before) (edit_is packet) marked).is ∙ passing.not_handed)
 
-  pub arrival-takes : SoundPlace seat shelf → CarriesCounts packet → (told : answers.Edit) → ArrivalDone seat shelf packet told
-      → Takes model packet before (record { seat = handOver seat (headingOf packet) (past_of packet) (barrierOf packet); shelf = shelf })
-  arrival-takes place counts told so =
+  pub arrival_takes : SoundPlace seat shelf → CarriesCounts packet → (told : answers.Edit) → ArrivalDone seat shelf packet told
+      → Takes model packet before (record { seat = hand_over seat (heading_of packet) (past_of packet) (barrier_of packet); shelf = shelf })
+  arrival_takes place counts told so =
       let passing = so.admitted.passing in
       record {
-        not-marked = passing-is-not-marked passing;
-        not-shelved = λ p (i, at) same. not-on-shelf shelf packet so.admitted.not-on-shelf p i at (one-edit-same-numbers p packet same);
-        ready = test-says-ready before packet so.is-ready;
-        learns = handing-over-learns seat packet (passing-can-be-handed-over seat place.sound place.held packet passing counts so.barrier-stays) shelf shelf;
-        shelf-after = λ p. (λ on. on, λ on. on);
+        not_marked = passing_is_not_marked passing;
+        not_shelved = λ p (i, at) same. not_on_shelf shelf packet so.admitted.not_on_shelf p i at (one_edit_same_numbers p packet same);
+        ready = test_says_ready before packet so.is_ready;
+        learns = handing_over_learns seat packet (passing_can_be_handed_over seat place.sound place.held packet passing counts so.barrier_stays) shelf shelf;
+        shelf_after_is = λ p. (λ on. on, λ on. on);
       }
 
-  pub arrival-shelves : ArrivalShelved seat shelf packet → Shelves model packet before (record { seat = seat; shelf = laid shelf (lowestFree shelf) (slot_of packet) })
-  arrival-shelves so =
+  pub arrival_shelves : ArrivalShelved seat shelf packet → Shelves model packet before (record { seat = seat; shelf = laid shelf (lowest_free shelf) (slot_of packet) })
+  arrival_shelves so =
       let passing = so.admitted.passing in
-      let free = lowestFree shelf in
+      let free = lowest_free shelf in
       record {
-        not-marked = passing-is-not-marked passing;
+        not_marked = passing_is_not_marked passing;
         past_after = λ i. refl;
-        barrier-after = λ i. refl;
-        marks-after = λ e. (
-          λ marked. record { by-low = marked.by-low; number-low = marked.number-low; is = marked.is },
-          λ marked. record { by-low = marked.by-low; number-low = marked.number-low; is = marked.is },
+        barrier_after_is = λ i. refl;
+        marks_after = λ e. (
+          λ marked. record { by_low = marked.by_low; number_low = marked.number_low; is = marked.is },
+          λ marked. record { by_low = marked.by_low; number_low = marked.number_low; is = marked.is },
         );
-        shelf-after = λ p. (
+        shelf_after_is = λ p. (
           λ (i, at).
-              elim (laying-adds-one shelf free packet so.there so.free passing.well-formed p i at) [
+              elim (laying_adds_one shelf free packet so.there so.free passing.is_well_formed p i at) [
                 | inl old ↦ inl (i, old)
                 | inr (here, is) ↦ inr is
               ],
           λ either.
               elim either [
-                | inl (i, at) ↦ (i, laying-keeps-what-stood shelf free packet so.there so.free passing.well-formed p i at)
-                | inr is ↦ (free, rw is (laid-packet-stands shelf free packet so.there so.free passing.well-formed))
+                | inl (i, at) ↦ (i, laying_keeps_what_stood shelf free packet so.there so.free passing.is_well_formed p i at)
+                | inr is ↦ (free, rw is (laid_packet_stands shelf free packet so.there so.free passing.is_well_formed))
               ],
         );
       }

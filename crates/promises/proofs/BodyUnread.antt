@@ -15,28 +15,28 @@ use Rattle.answers.specs.declared.Refusal.TheVariants.{NotSound, OutputTooShort,
 use Rattle.answers.specs.declared.Answer.{Answer}
 use Rattle.answers.specs.declared.Answer.TheVariants.{Opened, Done, Shelved, NothingReady, Refused}
 use Rattle.vectors.specs.Bytes.{fields_of}
-use Rattle.packet.specs.Packet.{senderOf, past_of, barrierOf, firstBadPoint}
+use Rattle.packet.specs.Packet.{sender_of, past_of, barrier_of, first_bad_point}
 use Rattle.packet.specs.Reading.{body_of}
-use Rattle.packet.specs.Writing.{head_of, packetOf, writeRefusals, writeAnswer, at_start, outputAfter, writeOutput, Written}
+use Rattle.packet.specs.Writing.{head_of, packet_of, write_refusals, write_answer, at_start, output_after, write_output, Written}
 use Rattle.packet.specs.declared.Kind.{Kind}
 use Rattle.packet.specs.declared.Header.{Header}
 use Rattle.packet.specs.declared.Heading.{Heading}
-use Rattle.shelf.specs.Shelf.{slots, slot_of, lowestFree, freeSlot}
-use Rattle.seat.specs.State.{headerOf}
-use Rattle.seat.specs.Stock.{packetAt, number_of, isHanded, onShelf}
-use Rattle.seat.specs.Sending.{kind_of, pastSent, barrierSent, sentSeat, sendRefusals, sendAnswer, seatAfter, Sent}
-use Rattle.seat.specs.HandingOver.{ready, handOver, barrierAbovePast}
-use Rattle.seat.specs.Arriving.{headingOf, soundBoth, admissionRefusals, repeats, arriveRefusals, editHanded, readyAnswer, waitAnswer, admittedAnswer, arriveAnswer, shelfAfter, Arrived}
-use Rattle.seat.specs.Releasing.{chosen, takeRefusals, releaseAnswer, shelfAfterRelease, Released}
+use Rattle.shelf.specs.Shelf.{slots, slot_of, lowest_free, free_slot}
+use Rattle.seat.specs.State.{header_of}
+use Rattle.seat.specs.Stock.{packet_at, number_of, is_handed, on_shelf}
+use Rattle.seat.specs.Sending.{kind_of, past_sent, barrier_sent, sent_seat, send_refusals, send_answer, seat_after, Sent}
+use Rattle.seat.specs.HandingOver.{ready, hand_over, barrier_above_past}
+use Rattle.seat.specs.Arriving.{heading_of, sound_both, admission_refusals, repeats, arrive_refusals, edit_handed, ready_answer, wait_answer, admitted_answer, arrive_answer, shelf_after, Arrived}
+use Rattle.seat.specs.Releasing.{chosen, take_refusals, release_answer, shelf_after_release, Released}
 use Rattle.seat.specs.declared.Seat.{Seat}
 use Rattle.seat.specs.declared.Wish.{Wish}
 use Rattle.seat.specs.declared.Stepped.{Stepped}
-use Rattle.seat.proofs.Chosen.{chosen-is-at-most-slots, chosen-is-ready, ready-slot-is-used}
-use Rattle.promises.specs.Demand1.{answerNumber}
+use Rattle.seat.proofs.Chosen.{chosen_is_at_most_slots, chosen_is_ready, ready_slot_is_used}
+use Rattle.promises.specs.Demand1.{answer_number}
 use Rattle.promises.specs.BodyUnread.{Alike, AlikeShelves, SameButFor, SameSlotChanges, BodyUnread}
-use Rattle.promises.proofs.AlikePackets.{same-sender, same-past, same-barrier, same_point, same-heading, same_number, same-reading, same-body-length, same-edit}
-use Rattle.promises.proofs.AlikeShelves.{same-slots, same-on-shelf, same-lowest-free, same-sound, same_chosen}
-use Rattle.promises.proofs.ReleaseOccasions.{next-is-chosen, release-occasions}
+use Rattle.promises.proofs.AlikePackets.{same_sender, same_past, same_barrier, same_point, same_heading, same_number, same_reading, same_body_length, same_edit}
+use Rattle.promises.proofs.AlikeShelves.{same_slots, same_on_shelf, same_lowest_free, same_sound, same_chosen}
+use Rattle.promises.proofs.ReleaseOccasions.{next_is_chosen, release_occasions}
 
 -- state and answer are the whole of a step
 same_step : (one other : Stepped) → one.seat ≡ other.seat → one.answer ≡ other.answer → one ≡ other
@@ -57,224 +57,224 @@ module _ (front body other out : List ℕ) (same : length body ≡ length other)
         append_assoc front other (drop (length (front ++ other)) out) ∙ ap (λ (rest : List ℕ). front ++ (other ++ rest)) same_rest,
       )
 
-  output-same : (answer : Answer) → SameButFor body other (outputAfter answer (front ++ body) out) (outputAfter answer (front ++ other) out)
-  output-same (Done edit) = put_same
-  output-same Opened = inl refl
-  output-same Shelved = inl refl
-  output-same NothingReady = inl refl
-  output-same (Refused refusal) = inl refl
+  output_same : (answer : Answer) → SameButFor body other (output_after answer (front ++ body) out) (output_after answer (front ++ other) out)
+  output_same (Done edit) = put_same
+  output_same Opened = inl refl
+  output_same Shelved = inl refl
+  output_same NothingReady = inl refl
+  output_same (Refused refusal) = inl refl
 
 -- what stands before the body
-abbrev frontOf : Kind → Header → List ℕ → List ℕ → ℕ → List ℕ
-frontOf kind header past barrier len = head_of kind header len ++ fields_of 2 (take header.n past) ++ fields_of 2 (take header.n barrier)
+abbrev front_of : Kind → Header → List ℕ → List ℕ → ℕ → List ℕ
+front_of kind header past barrier len = head_of kind header len ++ fields_of 2 (take header.n past) ++ fields_of 2 (take header.n barrier)
 
-packet-ends-in-body : (kind : Kind) (header : Header) (past barrier body : List ℕ)
-    → packetOf kind header past barrier body ≡ frontOf kind header past barrier (length body) ++ body
-unfolding packetOf
-packet-ends-in-body kind header past barrier body = refl
+packet_ends_in_body : (kind : Kind) (header : Header) (past barrier body : List ℕ)
+    → packet_of kind header past barrier body ≡ front_of kind header past barrier (length body) ++ body
+unfolding packet_of
+packet_ends_in_body kind header past barrier body = refl
 
 module _ (kind : Kind) (header : Header) (past barrier body other out : List ℕ) (same : length body ≡ length other) where
-  packets-same : (answer : Answer)
-      → SameButFor body other (outputAfter answer (packetOf kind header past barrier body) out) (outputAfter answer (packetOf kind header past barrier other) out)
-  packets-same answer =
-      rw (packet-ends-in-body kind header past barrier body, packet-ends-in-body kind header past barrier other, ← same)
-      (output-same (frontOf kind header past barrier (length body)) body other out same answer)
+  packets_same : (answer : Answer)
+      → SameButFor body other (output_after answer (packet_of kind header past barrier body) out) (output_after answer (packet_of kind header past barrier other) out)
+  packets_same answer =
+      rw (packet_ends_in_body kind header past barrier body, packet_ends_in_body kind header past barrier other, ← same)
+      (output_same (front_of kind header past barrier (length body)) body other out same answer)
 
-  same-write-answer : writeAnswer kind header past barrier body out ≡ writeAnswer kind header past barrier other out
-  unfolding writeAnswer writeRefusals
-  same-write-answer = rw same
+  same_write_answer : write_answer kind header past barrier body out ≡ write_answer kind header past barrier other out
+  unfolding write_answer write_refusals
+  same_write_answer = rw same
 
   written_same : (answer answer-other : Answer) (after after-other : List ℕ) → Written kind header past barrier body out answer after
       → Written kind header past barrier other out answer-other after-other → (answer ≡ answer-other) × SameButFor body other after after-other
-  unfolding writeOutput
+  unfolding write_output
   written_same answer answer-other after after-other w v = (
-    w.answered ∙ same-write-answer ∙ sym v.answered,
-    rw (w.output, v.output, ← same-write-answer) (packets-same (writeAnswer kind header past barrier body out)),
+    w.answered ∙ same_write_answer ∙ sym v.answered,
+    rw (w.output, v.output, ← same_write_answer) (packets_same (write_answer kind header past barrier body out)),
   )
 
 module _ (seat : Seat) (wish : Wish) (body other out : List ℕ) (same : length body ≡ length other) where
-  same-send-answer : sendAnswer seat body out ≡ sendAnswer seat other out
-  unfolding sendAnswer sendRefusals
-  same-send-answer = rw same
+  same_send_answer : send_answer seat body out ≡ send_answer seat other out
+  unfolding send_answer send_refusals
+  same_send_answer = rw same
 
-  sent-same : (stepped stepped-other : Stepped) (after after-other : List ℕ) → Sent seat wish body out stepped after
+  sent_same : (stepped stepped-other : Stepped) (after after-other : List ℕ) → Sent seat wish body out stepped after
       → Sent seat wish other out stepped-other after-other → (stepped ≡ stepped-other) × SameButFor body other after after-other
-  sent-same stepped stepped-other after after-other s t = (
+  sent_same stepped stepped-other after after-other s t = (
     same_step stepped stepped-other
-        (s.next ∙ ap (λ (a : Answer). seatAfter a (sentSeat seat (kind_of wish)) seat) same-send-answer ∙ sym t.next)
-        (s.answered ∙ same-send-answer ∙ sym t.answered),
-    rw (s.output, t.output, ← same-send-answer)
-        (packets-same (kind_of wish) (headerOf seat) (pastSent seat) (barrierSent seat (kind_of wish)) body other out same (sendAnswer seat body out)),
+        (s.next ∙ ap (λ (a : Answer). seat_after a (sent_seat seat (kind_of wish)) seat) same_send_answer ∙ sym t.next)
+        (s.answered ∙ same_send_answer ∙ sym t.answered),
+    rw (s.output, t.output, ← same_send_answer)
+        (packets_same (kind_of wish) (header_of seat) (past_sent seat) (barrier_sent seat (kind_of wish)) body other out same (send_answer seat body out)),
   )
 
 -- ---- arrivals
 
 -- the answer, by what it is made of
-abbrev arrivalBy : Seat → Bool → ℕ → Heading → List ℕ → List ℕ → Bool → ℕ → ℕ → Edit → Answer
-arrivalBy seat sound point heading past barrier repeated free count edit =
-    first_of ((NotSound, not sound) ∷ (NotWellFormed, not (eqb point 0)) ∷ admissionRefusals seat heading past repeated)
-    (cond (ready seat barrier) (readyAnswer seat heading past barrier edit) (first_of ((ShelfFull, eqb free count) ∷ []) Shelved))
+abbrev arrival_by : Seat → Bool → ℕ → Heading → List ℕ → List ℕ → Bool → ℕ → ℕ → Edit → Answer
+arrival_by seat sound point heading past barrier repeated free count edit =
+    first_of ((NotSound, not sound) ∷ (NotWellFormed, not (eqb point 0)) ∷ admission_refusals seat heading past repeated)
+    (cond (ready seat barrier) (ready_answer seat heading past barrier edit) (first_of ((ShelfFull, eqb free count) ∷ []) Shelved))
 
-arrival-by-parts : (seat : Seat) (shelf packet : List ℕ)
-    → arriveAnswer seat shelf packet
-    ≡ arrivalBy seat (soundBoth seat shelf) (firstBadPoint packet) (headingOf packet) (past_of packet) (barrierOf packet) (repeats seat shelf packet) (lowestFree shelf) (slots shelf)
-    (editHanded packet)
-unfolding arriveAnswer arriveRefusals admittedAnswer waitAnswer
-arrival-by-parts seat shelf packet = refl
+arrival_by_parts : (seat : Seat) (shelf packet : List ℕ)
+    → arrive_answer seat shelf packet
+    ≡ arrival_by seat (sound_both seat shelf) (first_bad_point packet) (heading_of packet) (past_of packet) (barrier_of packet) (repeats seat shelf packet) (lowest_free shelf) (slots shelf)
+    (edit_handed packet)
+unfolding arrive_answer arrive_refusals admitted_answer wait_answer
+arrival_by_parts seat shelf packet = refl
 
 module _ (seat : Seat) (packet other shelf shelf-other : List ℕ) (alike : Alike packet other) (shelves : AlikeShelves shelf shelf-other) where
-  same-repeats : repeats seat shelf packet ≡ repeats seat shelf-other other
-  same-repeats =
-      (λ i. isHanded seat (same-sender packet other alike i) (same_number packet other alike i) || onShelf shelf (same-sender packet other alike i) (same_number packet other alike i))
-      ∙ ap (λ (on : Bool). isHanded seat (senderOf other) (number_of other) || on) (same-on-shelf shelf shelf-other shelves (senderOf other) (number_of other))
+  same_repeats : repeats seat shelf packet ≡ repeats seat shelf-other other
+  same_repeats =
+      (λ i. is_handed seat (same_sender packet other alike i) (same_number packet other alike i) || on_shelf shelf (same_sender packet other alike i) (same_number packet other alike i))
+      ∙ ap (λ (on : Bool). is_handed seat (sender_of other) (number_of other) || on) (same_on_shelf shelf shelf-other shelves (sender_of other) (number_of other))
 
-  same-arrival : arriveAnswer seat shelf packet ≡ arriveAnswer seat shelf-other other
-  same-arrival =
-      arrival-by-parts seat shelf packet
+  same_arrival : arrive_answer seat shelf packet ≡ arrive_answer seat shelf-other other
+  same_arrival =
+      arrival_by_parts seat shelf packet
       ∙ (λ i.
-      arrivalBy seat (same-sound shelf shelf-other shelves seat i) (same_point packet other alike i) (same-heading packet other alike i) (same-past packet other alike i)
-      (same-barrier packet other alike i) (same-repeats i) (same-lowest-free shelf shelf-other shelves i) (same-slots shelf shelf-other shelves i)
-      (same-edit packet other alike i))
-      ∙ sym (arrival-by-parts seat shelf-other other)
+      arrival_by seat (same_sound shelf shelf-other shelves seat i) (same_point packet other alike i) (same_heading packet other alike i) (same_past packet other alike i)
+      (same_barrier packet other alike i) (same_repeats i) (same_lowest_free shelf shelf-other shelves i) (same_slots shelf shelf-other shelves i)
+      (same_edit packet other alike i))
+      ∙ sym (arrival_by_parts seat shelf-other other)
 
-  shelves-same : (answer : Answer)
-      → SameSlotChanges shelf shelf-other (shelfAfter answer packet shelf) (shelfAfter answer other shelf-other) (lowestFree shelf) (slot_of packet) (slot_of other)
-  shelves-same Shelved = inr (refl, rw (same-lowest-free shelf shelf-other shelves))
-  shelves-same Opened = inl (refl, refl)
-  shelves-same (Done edit) = inl (refl, refl)
-  shelves-same NothingReady = inl (refl, refl)
-  shelves-same (Refused refusal) = inl (refl, refl)
+  shelves_same : (answer : Answer)
+      → SameSlotChanges shelf shelf-other (shelf_after answer packet shelf) (shelf_after answer other shelf-other) (lowest_free shelf) (slot_of packet) (slot_of other)
+  shelves_same Shelved = inr (refl, rw (same_lowest_free shelf shelf-other shelves))
+  shelves_same Opened = inl (refl, refl)
+  shelves_same (Done edit) = inl (refl, refl)
+  shelves_same NothingReady = inl (refl, refl)
+  shelves_same (Refused refusal) = inl (refl, refl)
 
-  arrived-same : (stepped stepped-other : Stepped) (after after-other : List ℕ) → Arrived seat packet shelf stepped after → Arrived seat other shelf-other stepped-other after-other
+  arrived_same : (stepped stepped-other : Stepped) (after after-other : List ℕ) → Arrived seat packet shelf stepped after → Arrived seat other shelf-other stepped-other after-other
       → (stepped ≡ stepped-other) × ((i : ℕ) × SameSlotChanges shelf shelf-other after after-other i (slot_of packet) (slot_of other))
-  arrived-same stepped stepped-other after after-other a b = (
+  arrived_same stepped stepped-other after after-other a b = (
     same_step stepped stepped-other
         (a.next
-        ∙ (λ i. seatAfter (same-arrival i) (handOver seat (same-heading packet other alike i) (same-past packet other alike i) (same-barrier packet other alike i)) seat)
+        ∙ (λ i. seat_after (same_arrival i) (hand_over seat (same_heading packet other alike i) (same_past packet other alike i) (same_barrier packet other alike i)) seat)
         ∙ sym b.next)
-        (a.answered ∙ same-arrival ∙ sym b.answered),
-    (lowestFree shelf, rw (a.shelf-after, b.shelf-after, ← same-arrival) (shelves-same (arriveAnswer seat shelf packet))),
+        (a.answered ∙ same_arrival ∙ sym b.answered),
+    (lowest_free shelf, rw (a.shelf_after_is, b.shelf_after_is, ← same_arrival) (shelves_same (arrive_answer seat shelf packet))),
   )
 
 -- ---- releases
 
 -- the answer for a packet that is taken
-abbrev takingBy : Seat → List ℕ → ℕ → Heading → List ℕ → List ℕ → Edit → Answer
-takingBy seat out len heading past barrier edit =
-    first_of ((OutputTooShort, ltb (length out) len) ∷ (BarrierAbovePast, barrierAbovePast seat heading past barrier) ∷ []) (Done edit)
+abbrev taking_by : Seat → List ℕ → ℕ → Heading → List ℕ → List ℕ → Edit → Answer
+taking_by seat out len heading past barrier edit =
+    first_of ((OutputTooShort, ltb (length out) len) ∷ (BarrierAbovePast, barrier_above_past seat heading past barrier) ∷ []) (Done edit)
 
-abbrev takingOf : Seat → List ℕ → List ℕ → Answer
-takingOf seat out packet = takingBy seat out (length (body_of packet)) (headingOf packet) (past_of packet) (barrierOf packet) (editHanded packet)
+abbrev taking_of : Seat → List ℕ → List ℕ → Answer
+taking_of seat out packet = taking_by seat out (length (body_of packet)) (heading_of packet) (past_of packet) (barrier_of packet) (edit_handed packet)
 
-abbrev releaseBy : Bool → ℕ → ℕ → Answer → Answer
-releaseBy sound i count taking = first_of ((NotSound, not sound) ∷ []) (cond (eqb i count) NothingReady taking)
+abbrev release_by : Bool → ℕ → ℕ → Answer → Answer
+release_by sound i count taking = first_of ((NotSound, not sound) ∷ []) (cond (eqb i count) NothingReady taking)
 
-release-by-parts : (seat : Seat) (shelf out : List ℕ)
-    → releaseAnswer seat shelf out ≡ releaseBy (soundBoth seat shelf) (chosen seat shelf) (slots shelf) (takingOf seat out (packetAt shelf (chosen seat shelf)))
-unfolding releaseAnswer takeRefusals
-release-by-parts seat shelf out = refl
+release_by_parts : (seat : Seat) (shelf out : List ℕ)
+    → release_answer seat shelf out ≡ release_by (sound_both seat shelf) (chosen seat shelf) (slots shelf) (taking_of seat out (packet_at shelf (chosen seat shelf)))
+unfolding release_answer take_refusals
+release_by_parts seat shelf out = refl
 
 module _ (seat : Seat) (shelf shelf-other out : List ℕ) (shelves : AlikeShelves shelf shelf-other) where
   abbrev at : ℕ
   at = chosen seat shelf
 
-  taken-alike : at < slots shelf → Alike (packetAt shelf at) (packetAt shelf-other at)
-  taken-alike there = shelves.same-packets at there (ready-slot-is-used seat shelf at (chosen-is-ready seat shelf there))
+  taken_alike : at < slots shelf → Alike (packet_at shelf at) (packet_at shelf-other at)
+  taken_alike there = shelves.same_packets at there (ready_slot_is_used seat shelf at (chosen_is_ready seat shelf there))
 
-  same-taking : at < slots shelf → takingOf seat out (packetAt shelf at) ≡ takingOf seat out (packetAt shelf-other (chosen seat shelf-other))
-  same-taking there =
-      let one = packetAt shelf at in
-      let other = packetAt shelf-other at in
-      let alike = taken-alike there in
+  same_taking : at < slots shelf → taking_of seat out (packet_at shelf at) ≡ taking_of seat out (packet_at shelf-other (chosen seat shelf-other))
+  same_taking there =
+      let one = packet_at shelf at in
+      let other = packet_at shelf-other at in
+      let alike = taken_alike there in
       (λ i.
-      takingBy seat out (same-body-length one other alike i) (same-heading one other alike i) (same-past one other alike i) (same-barrier one other alike i)
-      (same-edit one other alike i))
-      ∙ ap (λ (k : ℕ). takingOf seat out (packetAt shelf-other k)) (same_chosen shelf shelf-other shelves seat)
+      taking_by seat out (same_body_length one other alike i) (same_heading one other alike i) (same_past one other alike i) (same_barrier one other alike i)
+      (same_edit one other alike i))
+      ∙ ap (λ (k : ℕ). taking_of seat out (packet_at shelf-other k)) (same_chosen shelf shelf-other shelves seat)
 
-  same-release : releaseAnswer seat shelf out ≡ releaseAnswer seat shelf-other out
-  same-release =
-      let sound = same-sound shelf shelf-other shelves seat in
+  same_release : release_answer seat shelf out ≡ release_answer seat shelf-other out
+  same_release =
+      let sound = same_sound shelf shelf-other shelves seat in
       let here = same_chosen shelf shelf-other shelves seat in
-      let count = same-slots shelf shelf-other shelves in
+      let count = same_slots shelf shelf-other shelves in
       elim (dec_lt at (slots shelf)) [
-        | yes there ↦ release-by-parts seat shelf out ∙ (λ i. releaseBy (sound i) (here i) (count i) (same-taking there i)) ∙ sym (release-by-parts seat shelf-other out)
-        | no more ↦ let none : at ≡ slots shelf = omega (arith, chosen-is-at-most-slots seat shelf) in
+        | yes there ↦ release_by_parts seat shelf out ∙ (λ i. release_by (sound i) (here i) (count i) (same_taking there i)) ∙ sym (release_by_parts seat shelf-other out)
+        | no more ↦ let none : at ≡ slots shelf = omega (arith, chosen_is_at_most_slots seat shelf) in
             let also : chosen seat shelf-other ≡ slots shelf-other = sym here ∙ none ∙ count in
-            release-by-parts seat shelf out
+            release_by_parts seat shelf out
             ∙ rw (eq-eqb at (slots shelf) none, eq-eqb (chosen seat shelf-other) (slots shelf-other) also)
             (ap (λ (b : Bool). first_of ((NotSound, not b) ∷ []) NothingReady) sound)
-            ∙ sym (release-by-parts seat shelf-other out)
+            ∙ sym (release_by_parts seat shelf-other out)
       ]
 
-  shelves-left-same : (answer : Answer)
-      → SameSlotChanges shelf shelf-other (shelfAfterRelease answer seat shelf) (shelfAfterRelease answer seat shelf-other) at freeSlot freeSlot
-  shelves-left-same (Done edit) = inr (refl, rw (same_chosen shelf shelf-other shelves seat))
-  shelves-left-same Opened = inl (refl, refl)
-  shelves-left-same Shelved = inl (refl, refl)
-  shelves-left-same NothingReady = inl (refl, refl)
-  shelves-left-same (Refused refusal) = inl (refl, refl)
+  shelves_left_same : (answer : Answer)
+      → SameSlotChanges shelf shelf-other (shelf_after_release answer seat shelf) (shelf_after_release answer seat shelf-other) at free_slot free_slot
+  shelves_left_same (Done edit) = inr (refl, rw (same_chosen shelf shelf-other shelves seat))
+  shelves_left_same Opened = inl (refl, refl)
+  shelves_left_same Shelved = inl (refl, refl)
+  shelves_left_same NothingReady = inl (refl, refl)
+  shelves_left_same (Refused refusal) = inl (refl, refl)
 
   -- a packet is taken only where one is chosen
-  done-is-there : answerNumber (releaseAnswer seat shelf out) ≡ 0 → at < slots shelf
-  done-is-there zero =
-      let facts = (release-occasions seat shelf out).is-0.0 zero in
-      let is = next-is-chosen seat shelf out facts.0 facts.1.0 facts.1.1 in
+  done_is_there : answer_number (release_answer seat shelf out) ≡ 0 → at < slots shelf
+  done_is_there zero =
+      let facts = (release_occasions seat shelf out).is_0.0 zero in
+      let is = next_is_chosen seat shelf out facts.0 facts.1.0 facts.1.1 in
       rw is at facts.1.1.ready.0
 
   abbrev body : List ℕ
-  body = body_of (packetAt shelf at)
+  body = body_of (packet_at shelf at)
 
-  abbrev body-other : List ℕ
-  body-other = body_of (packetAt shelf-other at)
+  abbrev body_other : List ℕ
+  body_other = body_of (packet_at shelf-other at)
 
-  outputs-same : (answer : Answer) → releaseAnswer seat shelf out ≡ answer → SameButFor body body-other (outputAfter answer body out) (outputAfter answer body-other out)
-  outputs-same (Done edit) is =
-      output-same [] body body-other out (same-body-length (packetAt shelf at) (packetAt shelf-other at) (taken-alike (done-is-there (ap answerNumber is)))) (Done edit)
-  outputs-same Opened is = inl refl
-  outputs-same Shelved is = inl refl
-  outputs-same NothingReady is = inl refl
-  outputs-same (Refused refusal) is = inl refl
+  outputs_same : (answer : Answer) → release_answer seat shelf out ≡ answer → SameButFor body body_other (output_after answer body out) (output_after answer body_other out)
+  outputs_same (Done edit) is =
+      output_same [] body body_other out (same_body_length (packet_at shelf at) (packet_at shelf-other at) (taken_alike (done_is_there (ap answer_number is)))) (Done edit)
+  outputs_same Opened is = inl refl
+  outputs_same Shelved is = inl refl
+  outputs_same NothingReady is = inl refl
+  outputs_same (Refused refusal) is = inl refl
 
   -- the next state after an answer
-  next-same : (answer : Answer) → releaseAnswer seat shelf out ≡ answer
-      → seatAfter answer (handOver seat (headingOf (packetAt shelf at)) (past_of (packetAt shelf at)) (barrierOf (packetAt shelf at))) seat
-      ≡ seatAfter answer (handOver seat (headingOf (packetAt shelf-other at)) (past_of (packetAt shelf-other at)) (barrierOf (packetAt shelf-other at))) seat
-  next-same (Done edit) is =
-      let one = packetAt shelf at in
-      let other = packetAt shelf-other at in
-      let alike = taken-alike (done-is-there (ap answerNumber is)) in
-      (λ i. handOver seat (same-heading one other alike i) (same-past one other alike i) (same-barrier one other alike i))
-  next-same Opened is = refl
-  next-same Shelved is = refl
-  next-same NothingReady is = refl
-  next-same (Refused refusal) is = refl
+  next_same : (answer : Answer) → release_answer seat shelf out ≡ answer
+      → seat_after answer (hand_over seat (heading_of (packet_at shelf at)) (past_of (packet_at shelf at)) (barrier_of (packet_at shelf at))) seat
+      ≡ seat_after answer (hand_over seat (heading_of (packet_at shelf-other at)) (past_of (packet_at shelf-other at)) (barrier_of (packet_at shelf-other at))) seat
+  next_same (Done edit) is =
+      let one = packet_at shelf at in
+      let other = packet_at shelf-other at in
+      let alike = taken_alike (done_is_there (ap answer_number is)) in
+      (λ i. hand_over seat (same_heading one other alike i) (same_past one other alike i) (same_barrier one other alike i))
+  next_same Opened is = refl
+  next_same Shelved is = refl
+  next_same NothingReady is = refl
+  next_same (Refused refusal) is = refl
 
-  released-same : (stepped stepped-other : Stepped) (left left_other out-left out-other : List ℕ) → Released seat shelf out stepped left out-left
+  released_same : (stepped stepped-other : Stepped) (left left_other out-left out-other : List ℕ) → Released seat shelf out stepped left out-left
       → Released seat shelf-other out stepped-other left_other out-other
       → (stepped ≡ stepped-other)
-      × ((i : ℕ) × SameSlotChanges shelf shelf-other left left_other i freeSlot freeSlot
-      × SameButFor (body_of (packetAt shelf i)) (body_of (packetAt shelf-other i)) out-left out-other)
-  released-same stepped stepped-other left left_other out-left out-other r q =
-      let answer = releaseAnswer seat shelf out in
+      × ((i : ℕ) × SameSlotChanges shelf shelf-other left left_other i free_slot free_slot
+      × SameButFor (body_of (packet_at shelf i)) (body_of (packet_at shelf-other i)) out-left out-other)
+  released_same stepped stepped-other left left_other out-left out-other r q =
+      let answer = release_answer seat shelf out in
       let here = same_chosen shelf shelf-other shelves seat in
       let next-other : stepped-other.seat
-      ≡ seatAfter answer (handOver seat (headingOf (packetAt shelf-other at)) (past_of (packetAt shelf-other at)) (barrierOf (packetAt shelf-other at))) seat =
-      rw (← same-release, ← here) at q.next in
-      let left_is : left_other ≡ shelfAfterRelease answer seat shelf-other = q.shelf-after ∙ ap (λ (a : Answer). shelfAfterRelease a seat shelf-other) (sym same-release) in
-      let out-is : out-other ≡ outputAfter answer body-other out = rw (← same-release, ← here) at q.output in (
-        same_step stepped stepped-other (r.next ∙ next-same answer refl ∙ sym next-other) (r.answered ∙ same-release ∙ sym q.answered),
-        (at, rw (r.shelf-after, left_is) (shelves-left-same answer), rw (r.output, out-is) (outputs-same answer refl)),
+      ≡ seat_after answer (hand_over seat (heading_of (packet_at shelf-other at)) (past_of (packet_at shelf-other at)) (barrier_of (packet_at shelf-other at))) seat =
+      rw (← same_release, ← here) at q.next in
+      let left_is : left_other ≡ shelf_after_release answer seat shelf-other = q.shelf_after_is ∙ ap (λ (a : Answer). shelf_after_release a seat shelf-other) (sym same_release) in
+      let out-is : out-other ≡ output_after answer body_other out = rw (← same_release, ← here) at q.output in (
+        same_step stepped stepped-other (r.next ∙ next_same answer refl ∙ sym next-other) (r.answered ∙ same_release ∙ sym q.answered),
+        (at, rw (r.shelf_after_is, left_is) (shelves_left_same answer), rw (r.output, out-is) (outputs_same answer refl)),
       )
 
-pub body-unread : BodyUnread
-body-unread =
+pub body_unread : BodyUnread
+body_unread =
     record {
       writing = λ kind header past barrier body other out answer answer-other after after-other same.
           written_same kind header past barrier body other out same answer answer-other after after-other;
-      reading = λ packet other alike. (same-reading packet other alike, same-body-length packet other alike);
-      sending = λ seat wish body other out stepped stepped-other after after-other same. sent-same seat wish body other out same stepped stepped-other after after-other;
+      reading = λ packet other alike. (same_reading packet other alike, same_body_length packet other alike);
+      sending = λ seat wish body other out stepped stepped-other after after-other same. sent_same seat wish body other out same stepped stepped-other after after-other;
       arriving = λ seat packet other shelf shelf-other stepped stepped-other after after-other alike shelves.
-          arrived-same seat packet other shelf shelf-other alike shelves stepped stepped-other after after-other;
+          arrived_same seat packet other shelf shelf-other alike shelves stepped stepped-other after after-other;
       releasing = λ seat shelf shelf-other out stepped stepped-other left left_other out-left out-other shelves.
-          released-same seat shelf shelf-other out shelves stepped stepped-other left left_other out-left out-other;
+          released_same seat shelf shelf-other out shelves stepped stepped-other left left_other out-left out-other;
     }

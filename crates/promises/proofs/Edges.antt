@@ -8,113 +8,113 @@ use lib.ListN.{length}
 use Rattle.answers.specs.Answers.{seatNo, first_of}
 use Rattle.answers.specs.declared.Refusal.TheVariants.{NotWellFormed}
 use Rattle.answers.specs.declared.Answer.TheVariants.{Refused}
-use Rattle.vectors.specs.Vectors.{all, table, vector, within, same, zeroAbove, maxes}
+use Rattle.vectors.specs.Vectors.{all, table, vector, within, same, zero_above, maxes}
 use Rattle.vectors.specs.Bytes.{number_at, bytes_of, fields_of}
-use Rattle.window.specs.Window.{bit, handed, noneAbove, soundWindow, marked, trailingOnes, advanced, handedOver}
-use Rattle.packet.specs.Packet.{bodyLengthOf, headTests, pointSeven, pointEight, vectorTests, firstFailing, firstBadPoint}
-use Rattle.packet.specs.Reading.{read_of, body_of, readNumber}
-use Rattle.packet.specs.Writing.{packetOf, in_range}
+use Rattle.window.specs.Window.{bit, handed, none_above, sound_window, marked, trailing_ones, advanced, handed_over}
+use Rattle.packet.specs.Packet.{body_length_of, head_tests, point_seven, point_eight, vector_tests, first_failing, first_bad_point}
+use Rattle.packet.specs.Reading.{read_of, body_of, read_number}
+use Rattle.packet.specs.Writing.{packet_of, in_range}
 use Rattle.packet.specs.declared.Kind.{Kind}
 use Rattle.packet.specs.declared.Kind.TheVariants.{Ordinary, Causal}
 use Rattle.packet.proofs.Formed.{formed}
-use Rattle.packet.proofs.Told.{read-refused}
-use Rattle.shelf.specs.Shelf.{wholeSlots, slot_at, allZero, slot_of, lowest}
-use Rattle.seat.specs.State.{clearAbove, soundWindows, soundState}
-use Rattle.seat.specs.Stock.{holdsPacket, packetIn, passes, isEdit, onSlots, distinct, soundSlots, soundShelf}
-use Rattle.seat.specs.Opening.{openAnswer}
-use Rattle.seat.specs.Sending.{sendAnswer, sentSeat}
-use Rattle.seat.specs.HandingOver.{handOver}
-use Rattle.seat.specs.Arriving.{admissionRefusals, arriveRefusals, readyAnswer, waitAnswer, admittedAnswer, arriveAnswer, soundBoth}
-use Rattle.seat.specs.Releasing.{readyAt, noLater, comesFirst, chosen, takeRefusals, releaseAnswer}
-use Rattle.seat.proofs.OpenAnswers.{no-such-seat-answers-20, opening-answers-0}
-use Rattle.seat.proofs.SendAnswers.{long-body-answers-11, full-count-answers-12, sending-answers-0}
-use Rattle.seat.proofs.Hearing.{refused-14}
-use Rattle.seat.proofs.Opened.{counting-is-sound}
-use Rattle.promises.specs.Demand1.{answerNumber}
-use Rattle.promises.specs.Edges.{Edges, freshSeat, seatThatSent, firstSent, secondSent, arrivalNumber, arrivalNumbers, afterArrivals, packetsNumbered, oneLast}
+use Rattle.packet.proofs.Told.{read_refused}
+use Rattle.shelf.specs.Shelf.{whole_slots, slot_at, all_zero, slot_of, lowest}
+use Rattle.seat.specs.State.{clear_above, sound_windows, sound_state}
+use Rattle.seat.specs.Stock.{holds_packet, packet_in, passes, is_edit, on_slots, distinct, sound_slots, sound_shelf}
+use Rattle.seat.specs.Opening.{open_answer}
+use Rattle.seat.specs.Sending.{send_answer, sent_seat}
+use Rattle.seat.specs.HandingOver.{hand_over}
+use Rattle.seat.specs.Arriving.{admission_refusals, arrive_refusals, ready_answer, wait_answer, admitted_answer, arrive_answer, sound_both}
+use Rattle.seat.specs.Releasing.{ready_at, no_later, comes_first, chosen, take_refusals, release_answer}
+use Rattle.seat.proofs.OpenAnswers.{no_such_seat_answers_20, opening_answers_0}
+use Rattle.seat.proofs.SendAnswers.{long_body_answers_11, full_count_answers_12, sending_answers_0}
+use Rattle.seat.proofs.Hearing.{refused_14}
+use Rattle.seat.proofs.Opened.{counting_is_sound}
+use Rattle.promises.specs.Demand1.{answer_number}
+use Rattle.promises.specs.Edges.{Edges, fresh_seat, seat_that_sent, first_sent, second_sent, arrival_number, arrival_numbers, after_arrivals, packets_numbered, one_last}
 
 opened : (shelf : List ℕ)
-    → (answerNumber (openAnswer 0 (seatNo 0) shelf) ≡ 20)
-    × (answerNumber (openAnswer 17 (seatNo 1) shelf) ≡ 20)
-    × (answerNumber (openAnswer 2 (seatNo 3) shelf) ≡ 20)
-    × (wholeSlots shelf ≡ true → answerNumber (openAnswer 16 (seatNo 16) shelf) ≡ 0)
+    → (answer_number (open_answer 0 (seatNo 0) shelf) ≡ 20)
+    × (answer_number (open_answer 17 (seatNo 1) shelf) ≡ 20)
+    × (answer_number (open_answer 2 (seatNo 3) shelf) ≡ 20)
+    × (whole_slots shelf ≡ true → answer_number (open_answer 16 (seatNo 16) shelf) ≡ 0)
 unfolding in_range
 opened shelf = (
-  ap answerNumber (no-such-seat-answers-20 0 (seatNo 0) shelf refl),
-  ap answerNumber (no-such-seat-answers-20 17 (seatNo 1) shelf refl),
-  ap answerNumber (no-such-seat-answers-20 2 (seatNo 3) shelf refl),
-  λ whole. ap answerNumber (opening-answers-0 16 (seatNo 16) shelf refl whole),
+  ap answer_number (no_such_seat_answers_20 0 (seatNo 0) shelf refl),
+  ap answer_number (no_such_seat_answers_20 17 (seatNo 1) shelf refl),
+  ap answer_number (no_such_seat_answers_20 2 (seatNo 3) shelf refl),
+  λ whole. ap answer_number (opening_answers_0 16 (seatNo 16) shelf refl whole),
 )
 
-no-slots : (first : Kind) → (arrivalNumber (freshSeat 2 2) (secondSent first Causal) ≡ 19) × (arrivalNumber (freshSeat 2 2) (firstSent first) ≡ 0)
-unfolding sentSeat arriveAnswer arriveRefusals first_of soundState in_range clearAbove zeroAbove within soundWindows soundWindow noneAbove bit all soundShelf wholeSlots soundSlots distinct firstBadPoint headTests vectorTests pointSeven pointEight firstFailing packetOf fields_of bytes_of number_at vector table same admissionRefusals admittedAnswer readyAnswer waitAnswer handed onSlots maxes body_of lowest
-no-slots Ordinary = (refl, refl)
-no-slots Causal = (refl, refl)
+no_slots : (first : Kind) → (arrival_number (fresh_seat 2 2) (second_sent first Causal) ≡ 19) × (arrival_number (fresh_seat 2 2) (first_sent first) ≡ 0)
+unfolding sent_seat arrive_answer arrive_refusals first_of sound_state in_range clear_above zero_above within sound_windows sound_window none_above bit all sound_shelf whole_slots sound_slots distinct first_bad_point head_tests vector_tests point_seven point_eight first_failing packet_of fields_of bytes_of number_at vector table same admission_refusals admitted_answer ready_answer wait_answer handed on_slots maxes body_of lowest
+no_slots Ordinary = (refl, refl)
+no_slots Causal = (refl, refl)
 
 -- ---- sends
 
-sent-count-is-sound : (soundState (seatThatSent 65534) ≡ true) × (soundState (seatThatSent 65535) ≡ true)
-unfolding soundState in_range clearAbove zeroAbove within soundWindows soundWindow noneAbove bit all
-sent-count-is-sound = (refl, refl)
+sent_count_is_sound : (sound_state (seat_that_sent 65534) ≡ true) × (sound_state (seat_that_sent 65535) ≡ true)
+unfolding sound_state in_range clear_above zero_above within sound_windows sound_window none_above bit all
+sent_count_is_sound = (refl, refl)
 
 counts : (out : List ℕ)
-    → (7 ≤ length out → answerNumber (sendAnswer (seatThatSent 65534) [] out) ≡ 0)
-    × (answerNumber (sendAnswer (seatThatSent 65535) [] out) ≡ 12)
+    → (7 ≤ length out → answer_number (send_answer (seat_that_sent 65534) [] out) ≡ 0)
+    × (answer_number (send_answer (seat_that_sent 65535) [] out) ≡ 12)
 counts out = (
-  λ room. ap answerNumber (sending-answers-0 (seatThatSent 65534) [] out sent-count-is-sound.0 (omega arith) (λ full. omega arith) room),
-  ap answerNumber (full-count-answers-12 (seatThatSent 65535) [] out sent-count-is-sound.1 (omega arith) refl),
+  λ room. ap answer_number (sending_answers_0 (seat_that_sent 65534) [] out sent_count_is_sound.0 (omega arith) (λ full. omega arith) room),
+  ap answer_number (full_count_answers_12 (seat_that_sent 65535) [] out sent_count_is_sound.1 (omega arith) refl),
 )
 
-fresh-is-sound : soundState (freshSeat 1 1) ≡ true
+fresh_is_sound : sound_state (fresh_seat 1 1) ≡ true
 unfolding in_range
-fresh-is-sound = counting-is-sound 1 (seatNo 1) refl
+fresh_is_sound = counting_is_sound 1 (seatNo 1) refl
 
 bodies : (body out : List ℕ)
-    → (length body ≡ 200 → 207 ≤ length out → answerNumber (sendAnswer (freshSeat 1 1) body out) ≡ 0)
-    × (length body ≡ 201 → answerNumber (sendAnswer (freshSeat 1 1) body out) ≡ 11)
+    → (length body ≡ 200 → 207 ≤ length out → answer_number (send_answer (fresh_seat 1 1) body out) ≡ 0)
+    × (length body ≡ 201 → answer_number (send_answer (fresh_seat 1 1) body out) ≡ 11)
 bodies body out = (
-  λ long room. ap answerNumber (sending-answers-0 (freshSeat 1 1) body out fresh-is-sound (omega arith) (λ full. omega arith) (omega arith)),
-  λ long. ap answerNumber (long-body-answers-11 (freshSeat 1 1) body out fresh-is-sound (omega arith)),
+  λ long room. ap answer_number (sending_answers_0 (fresh_seat 1 1) body out fresh_is_sound (omega arith) (λ full. omega arith) (omega arith)),
+  λ long. ap answer_number (long_body_answers_11 (fresh_seat 1 1) body out fresh_is_sound (omega arith)),
 )
 
 -- ---- packets that are not well formed
 
-fresh-both-sound : soundBoth (freshSeat 1 1) [] ≡ true
-unfolding soundState in_range clearAbove zeroAbove within soundWindows soundWindow noneAbove bit all soundShelf wholeSlots soundSlots distinct
-fresh-both-sound = refl
+fresh_both_sound : sound_both (fresh_seat 1 1) [] ≡ true
+unfolding sound_state in_range clear_above zero_above within sound_windows sound_window none_above bit all sound_shelf whole_slots sound_slots distinct
+fresh_both_sound = refl
 
-badly-formed : (packet : List ℕ) → (firstBadPoint packet ≡ 0 → ⊥)
-    → (readNumber (read_of packet).answer ≡ 14) × (arrivalNumber (freshSeat 1 1) packet ≡ 14)
-badly-formed packet bad = (
-  rw (read-refused packet bad),
+badly_formed : (packet : List ℕ) → (first_bad_point packet ≡ 0 → ⊥)
+    → (read_number (read_of packet).answer ≡ 14) × (arrival_number (fresh_seat 1 1) packet ≡ 14)
+badly_formed packet bad = (
+  rw (read_refused packet bad),
   sym
-      (ap answerNumber (refused-14 (freshSeat 1 1) packet [] (record { seat = freshSeat 1 1; answer = Refused NotWellFormed }) fresh-both-sound bad refl refl).answered),
+      (ap answer_number (refused_14 (fresh_seat 1 1) packet [] (record { seat = fresh_seat 1 1; answer = Refused NotWellFormed }) fresh_both_sound bad refl refl).answered),
 )
 
-naming-201 : (packet : List ℕ) → bodyLengthOf packet ≡ 201 → firstBadPoint packet ≡ 0 → ⊥
-naming-201 packet names good = let short = (formed packet good).head.body in omega arith
+naming_201 : (packet : List ℕ) → body_length_of packet ≡ 201 → first_bad_point packet ≡ 0 → ⊥
+naming_201 packet names good = let short = (formed packet good).head.body in omega arith
 
-empty-packet : firstBadPoint [] ≡ 0 → ⊥
-empty-packet good = let long = (formed [] good).head.long in omega arith
+empty_packet : first_bad_point [] ≡ 0 → ⊥
+empty_packet good = let long = (formed [] good).head.long in omega arith
 
 pub edges : Edges
-unfolding sentSeat arriveAnswer arriveRefusals first_of soundState in_range clearAbove zeroAbove within soundWindows soundWindow noneAbove bit all soundShelf wholeSlots soundSlots distinct firstBadPoint headTests vectorTests pointSeven pointEight firstFailing packetOf fields_of bytes_of number_at vector table same admissionRefusals admittedAnswer readyAnswer waitAnswer handed onSlots maxes body_of lowest handOver handedOver advanced marked trailingOnes arrivalNumbers afterArrivals packetsNumbered oneLast read_of releaseAnswer slot_of slot_at allZero chosen comesFirst readyAt noLater takeRefusals packetIn holdsPacket passes isEdit
+unfolding sent_seat arrive_answer arrive_refusals first_of sound_state in_range clear_above zero_above within sound_windows sound_window none_above bit all sound_shelf whole_slots sound_slots distinct first_bad_point head_tests vector_tests point_seven point_eight first_failing packet_of fields_of bytes_of number_at vector table same admission_refusals admitted_answer ready_answer wait_answer handed on_slots maxes body_of lowest hand_over handed_over advanced marked trailing_ones arrival_numbers after_arrivals packets_numbered one_last read_of release_answer slot_of slot_at all_zero chosen comes_first ready_at no_later take_refusals packet_in holds_packet passes is_edit
 edges =
     record {
       p1 = opened;
-      p2 = record { past_is = refl; barrier-is = refl };
-      p3 = (record { past_is = refl; barrier-is = refl }, record { past_is = refl; barrier-is = refl });
+      p2 = record { past_is = refl; barrier_is = refl };
+      p3 = (record { past_is = refl; barrier_is = refl }, record { past_is = refl; barrier_is = refl });
       p4 = refl;
       p5 = (refl, refl);
       p6 = (refl, refl, refl);
       p7 = counts;
-      p8 = no-slots;
+      p8 = no_slots;
       p9 = λ body out. (
         (bodies body out).0,
         (bodies body out).1,
-        λ packet names. badly-formed packet (naming-201 packet names),
-        (badly-formed [] empty-packet).0,
-        (badly-formed [] empty-packet).1,
+        λ packet names. badly_formed packet (naming_201 packet names),
+        (badly_formed [] empty_packet).0,
+        (badly_formed [] empty_packet).1,
       );
       p10 = (refl, refl);
       p11 = refl;

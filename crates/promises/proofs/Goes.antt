@@ -10,20 +10,20 @@ use Rattle.seat.proofs.CarriedCounts.{CarriesCounts}
 use Rattle.seat.proofs.SteppingSound.{SoundPlace}
 use Rattle.session.specs.Events.{Trace, ◌∈◌}
 use Rattle.session.specs.Protocol.{Seated, edit, Run}
-use Rattle.session.proofs.Invariant.{each-seat}
+use Rattle.session.proofs.Invariant.{each_seat}
 use Rattle.promises.specs.Demand3.{Place, moved_to, Letter}
 use Rattle.promises.proofs.Model.{model}
-use Rattle.promises.proofs.Moving.{moved_here, turn-of, nothing-moved}
+use Rattle.promises.proofs.Moving.{moved_here, turn_of, nothing_moved}
 
 -- The packets of the letters.
-abbrev pub packetsOf : List Letter → List (List ℕ)
-packetsOf [] = []
-packetsOf (letter ∷ letters) = letter.bytes ∷ packetsOf letters
+abbrev pub packets_of : List Letter → List (List ℕ)
+packets_of [] = []
+packets_of (letter ∷ letters) = letter.bytes ∷ packets_of letters
 
 -- a letter that was sent is a packet that was sent
-pub letter-in : {letter : Letter} {letters : List Letter} → letter ∈ letters → letter.bytes ∈ packetsOf letters
-letter-in (Memᴰ.head same) = Memᴰ.head (ap (λ (l : Letter). l.bytes) same)
-letter-in (Memᴰ.tail rest) = Memᴰ.tail (letter-in rest)
+pub letter_in_lem : {letter : Letter} {letters : List Letter} → letter ∈ letters → letter.bytes ∈ packets_of letters
+letter_in_lem (Memᴰ.head same) = Memᴰ.head (ap (λ (l : Letter). l.bytes) same)
+letter_in_lem (Memᴰ.tail rest) = Memᴰ.tail (letter_in_lem rest)
 
 -- A letter's packet carries counts, and the edit that its send reported.
 pub record WellSent (letter : Letter) : Type 0 where
@@ -37,34 +37,34 @@ pub record WellPlaced (j : ℕ) (place : Place) : Type 0 where
 
 -- What a session leaves: a run, sound places, and packets that are what their sends reported.
 pub record Goes (n : ℕ) (places : ℕ → Place) (letters : List Letter) (trace : Trace) : Type 0 where
-  pub run : Run model n places (packetsOf letters) trace
+  pub run : Run model n places (packets_of letters) trace
   pub placed : (j : ℕ) → Seated n j → WellPlaced j (places j)
   pub posted : (letter : Letter) → letter ∈ letters → WellSent letter
 
 -- one letter more
-pub posted-after : (new : Letter) (letters : List Letter) → WellSent new → ((letter : Letter) → letter ∈ letters → WellSent letter)
+pub posted_after : (new : Letter) (letters : List Letter) → WellSent new → ((letter : Letter) → letter ∈ letters → WellSent letter)
     → (letter : Letter) → letter ∈ (new ∷ letters) → WellSent letter
-posted-after new letters well rest letter (Memᴰ.head same) = subst WellSent (sym same) well
-posted-after new letters well rest letter (Memᴰ.tail old) = rest letter old
+posted_after new letters well rest letter (Memᴰ.head same) = subst WellSent (sym same) well
+posted_after new letters well rest letter (Memᴰ.tail old) = rest letter old
 
 module _ {n : ℕ} {places : ℕ → Place} {letters : List Letter} {trace : Trace} (so_far : Goes n places letters trace) (j : ℕ) (seated : Seated n j) where
   pub here : WellPlaced j (places j)
   here = so_far.placed j seated
 
   -- the places that one step leaves
-  abbrev pub with-place : Seat → List ℕ → ℕ → Place
-  with-place next left = moved_to j (record { seat = next; shelf = left }) places
+  abbrev pub place_with : Seat → List ℕ → ℕ → Place
+  place_with next left = moved_to j (record { seat = next; shelf = left }) places
 
   -- the seat that went on keeps its number, and the others stay
-  pub placed-after : (next : Seat) (left : List ℕ) → SoundPlace next left → next.own ≡ (places j).seat.own → (i : ℕ) → Seated n i → WellPlaced i (with-place next left i)
-  placed-after next left sound same =
+  pub placed_after : (next : Seat) (left : List ℕ) → SoundPlace next left → next.own ≡ (places j).seat.own → (i : ℕ) → Seated n i → WellPlaced i (place_with next left i)
+  placed_after next left sound same =
       let place : Place = record { seat = next; shelf = left } in
       let well : WellPlaced j place = record { sound = sound; numbered = ap (λ (s : SeatNo). s.0) same ∙ here.numbered } in
-      each-seat model (λ i a. Seated n i → WellPlaced i a) (turn-of j place places (λ before after. Unit {0}) tt)
+      each_seat model (λ i a. Seated n i → WellPlaced i a) (turn_of j place places (λ before after. Unit {0}) tt)
       (λ _. subst (WellPlaced j) (sym (moved_here j place places)) well) (λ i away s. so_far.placed i s)
 
   -- a step that changes nothing and tells nothing
-  pub stays : (next : Seat) (left : List ℕ) → next ≡ (places j).seat → left ≡ (places j).shelf → Goes n (with-place next left) letters trace
+  pub stays : (next : Seat) (left : List ℕ) → next ≡ (places j).seat → left ≡ (places j).shelf → Goes n (place_with next left) letters trace
   stays next left same-seat same-shelf =
       subst (λ (all : ℕ → Place). Goes n all letters trace)
-      (sym (nothing-moved j (record { seat = next; shelf = left }) places (λ i. record { seat = same-seat i; shelf = same-shelf i }))) so_far
+      (sym (nothing_moved j (record { seat = next; shelf = left }) places (λ i. record { seat = same-seat i; shelf = same-shelf i }))) so_far

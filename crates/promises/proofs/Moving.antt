@@ -10,51 +10,51 @@ use Rattle.answers.specs.declared.Refusal.{Refusal}
 use Rattle.answers.specs.declared.Refusal.TheVariants.{NotSound, BodyTooLong, CountFull, OutputTooShort, NotWellFormed, OtherSession, AboveOwnCount, Repeated, TooFarAhead, ShelfFull, NoSuchSeat, BarrierAbovePast}
 use Rattle.session.specs.Events.{Edit, Trace}
 use Rattle.session.specs.Protocol.{Turn}
-use Rattle.promises.specs.Demand3.{Place, moved_to, traceAfterArrival, traceAfterRelease}
+use Rattle.promises.specs.Demand3.{Place, moved_to, trace_after_arrival, trace_after_release}
 use Rattle.promises.proofs.Model.{model}
 
 module _ (j : ℕ) (place : Place) (places : ℕ → Place) where
   pub moved_here : moved_to j place places j ≡ place
   moved_here = rw (eq-eqb j j refl)
 
-  pub stays-elsewhere : (i : ℕ) → i ≢ j → moved_to j place places i ≡ places i
-  stays-elsewhere i away = rw (ne_eqb i j away)
+  pub stays_elsewhere : (i : ℕ) → i ≢ j → moved_to j place places i ≡ places i
+  stays_elsewhere i away = rw (ne_eqb i j away)
 
-  pub turn-of : (Step : Place → Place → Type 0) → Step (places j) place → Turn model j Step places (moved_to j place places)
-  turn-of Step step = record { step = subst (Step (places j)) (sym moved_here) step; others = stays-elsewhere }
+  pub turn_of : (Step : Place → Place → Type 0) → Step (places j) place → Turn model j Step places (moved_to j place places)
+  turn_of Step step = record { step = subst (Step (places j)) (sym moved_here) step; others = stays_elsewhere }
 
   -- a seat that stays where it is
-  pub nothing-moved : place ≡ places j → moved_to j place places ≡ places
-  nothing-moved same = λ i l. each l i
+  pub nothing_moved : place ≡ places j → moved_to j place places ≡ places
+  nothing_moved same = λ i l. each l i
     where
       each : (l : ℕ) → moved_to j place places l ≡ places l
       each l =
           elim (ℕ_discrete l j) [
             | yes here ↦ rw here (moved_here ∙ same)
-            | no away ↦ stays-elsewhere l away
+            | no away ↦ stays_elsewhere l away
           ]
 
-pub refusals-are-from-10 : (refusal : Refusal) → 10 ≤ refusalNumber refusal
-refusals-are-from-10 NotSound = omega arith
-refusals-are-from-10 BodyTooLong = omega arith
-refusals-are-from-10 CountFull = omega arith
-refusals-are-from-10 OutputTooShort = omega arith
-refusals-are-from-10 NotWellFormed = omega arith
-refusals-are-from-10 OtherSession = omega arith
-refusals-are-from-10 AboveOwnCount = omega arith
-refusals-are-from-10 Repeated = omega arith
-refusals-are-from-10 TooFarAhead = omega arith
-refusals-are-from-10 ShelfFull = omega arith
-refusals-are-from-10 NoSuchSeat = omega arith
-refusals-are-from-10 BarrierAbovePast = omega arith
+pub refusals_are_from_10 : (refusal : Refusal) → 10 ≤ refusalNumber refusal
+refusals_are_from_10 NotSound = omega arith
+refusals_are_from_10 BodyTooLong = omega arith
+refusals_are_from_10 CountFull = omega arith
+refusals_are_from_10 OutputTooShort = omega arith
+refusals_are_from_10 NotWellFormed = omega arith
+refusals_are_from_10 OtherSession = omega arith
+refusals_are_from_10 AboveOwnCount = omega arith
+refusals_are_from_10 Repeated = omega arith
+refusals_are_from_10 TooFarAhead = omega arith
+refusals_are_from_10 ShelfFull = omega arith
+refusals_are_from_10 NoSuchSeat = omega arith
+refusals_are_from_10 BarrierAbovePast = omega arith
 
-pub refused-arrival-tells-nothing : (number : ℕ) → 10 ≤ number → (j : ℕ) (edit arrived : Edit) (trace : Trace) → traceAfterArrival number j edit arrived trace ≡ trace
-refused-arrival-tells-nothing zero low j edit arrived trace = absurd (omega arith)
-refused-arrival-tells-nothing (suc zero) low j edit arrived trace = absurd (omega arith)
-refused-arrival-tells-nothing (suc (suc number)) low j edit arrived trace = refl
+pub refused_arrival_tells_nothing : (number : ℕ) → 10 ≤ number → (j : ℕ) (edit arrived : Edit) (trace : Trace) → trace_after_arrival number j edit arrived trace ≡ trace
+refused_arrival_tells_nothing zero low j edit arrived trace = absurd (omega arith)
+refused_arrival_tells_nothing (suc zero) low j edit arrived trace = absurd (omega arith)
+refused_arrival_tells_nothing (suc (suc number)) low j edit arrived trace = refl
 
-pub refused-release-tells-nothing : (number : ℕ) → 10 ≤ number → (j : ℕ) (edit : Edit) (trace : Trace) → traceAfterRelease number j edit trace ≡ trace
-refused-release-tells-nothing zero low j edit trace = absurd (omega arith)
-refused-release-tells-nothing (suc zero) low j edit trace = refl
-refused-release-tells-nothing (suc (suc zero)) low j edit trace = absurd (omega arith)
-refused-release-tells-nothing (suc (suc (suc number))) low j edit trace = refl
+pub refused_release_tells_nothing : (number : ℕ) → 10 ≤ number → (j : ℕ) (edit : Edit) (trace : Trace) → trace_after_release number j edit trace ≡ trace
+refused_release_tells_nothing zero low j edit trace = absurd (omega arith)
+refused_release_tells_nothing (suc zero) low j edit trace = refl
+refused_release_tells_nothing (suc (suc zero)) low j edit trace = absurd (omega arith)
+refused_release_tells_nothing (suc (suc (suc number))) low j edit trace = refl

@@ -7,15 +7,15 @@ use Rattle.answers.specs.declared.SeatNo.{SeatNo}
 use Rattle.answers.specs.declared.Refusal.TheVariants.{NoSuchSeat, NotSound}
 use Rattle.answers.specs.declared.Answer.{Answer}
 use Rattle.answers.specs.declared.Answer.TheVariants.{Opened, Refused}
-use Rattle.seat.specs.Opening.{openAnswer}
-use Rattle.seat.proofs.OpenAnswers.{no-such-seat-answers-20, broken-shelf-answers-10, opening-answers-0}
-use Rattle.promises.specs.Demand1.{answerNumber, SeatOf, WholeSlots, OpenAnswers}
-use Rattle.promises.proofs.Occasions.{occasionIn, in-the-table}
-use Rattle.promises.proofs.Plain.{decided, fails, range-agrees, whole-agrees}
+use Rattle.seat.specs.Opening.{open_answer}
+use Rattle.seat.proofs.OpenAnswers.{no_such_seat_answers_20, broken_shelf_answers_10, opening_answers_0}
+use Rattle.promises.specs.Demand1.{answer_number, SeatOf, WholeSlots, OpenAnswers}
+use Rattle.promises.proofs.Occasions.{occasion_in, in_the_table}
+use Rattle.promises.proofs.Plain.{decided, fails, range_agrees, whole_agrees}
 
 module _ (n : ℕ) (own : SeatNo) (shelf : List ℕ) where
   abbrev answer : Answer
-  answer = openAnswer n own shelf
+  answer = open_answer n own shelf
 
   -- each number and its occasion
   abbrev table : List (ℕ × Type 0)
@@ -26,36 +26,36 @@ module _ (n : ℕ) (own : SeatNo) (shelf : List ℕ) where
       ∷ []
 
   abbrev occasion : ℕ → Type 0
-  occasion k = occasionIn table k
+  occasion k = occasion_in table k
 
-  gives-20 : (SeatOf own n → ⊥) → answer ≡ Refused NoSuchSeat
-  gives-20 none = no-such-seat-answers-20 n own shelf (fails _ (range-agrees (record { n = n; sender = own })) none)
+  gives_20 : (SeatOf own n → ⊥) → answer ≡ Refused NoSuchSeat
+  gives_20 none = no_such_seat_answers_20 n own shelf (fails _ (range_agrees (record { n = n; sender = own })) none)
 
-  gives-10 : SeatOf own n → (WholeSlots shelf → ⊥) → answer ≡ Refused NotSound
-  gives-10 range broken = broken-shelf-answers-10 n own shelf ((range-agrees (record { n = n; sender = own })).0 range) (fails _ (whole-agrees shelf) broken)
+  gives_10 : SeatOf own n → (WholeSlots shelf → ⊥) → answer ≡ Refused NotSound
+  gives_10 range broken = broken_shelf_answers_10 n own shelf ((range_agrees (record { n = n; sender = own })).0 range) (fails _ (whole_agrees shelf) broken)
 
-  pub in-range-is-opened : SeatOf own n → WholeSlots shelf → answer ≡ Opened
-  in-range-is-opened range whole = opening-answers-0 n own shelf ((range-agrees (record { n = n; sender = own })).0 range) ((whole-agrees shelf).0 whole)
+  pub in_range_is_opened : SeatOf own n → WholeSlots shelf → answer ≡ Opened
+  in_range_is_opened range whole = opening_answers_0 n own shelf ((range_agrees (record { n = n; sender = own })).0 range) ((whole_agrees shelf).0 whole)
 
-  by-shelf : SeatOf own n → occasion (answerNumber answer)
-  by-shelf range =
-      elim (decided _ (whole-agrees shelf)) [
-        | inl whole ↦ subst occasion (sym (ap answerNumber (in-range-is-opened range whole))) (range, whole)
-        | inr broken ↦ subst occasion (sym (ap answerNumber (gives-10 range broken))) (range, broken)
+  by_shelf : SeatOf own n → occasion (answer_number answer)
+  by_shelf range =
+      elim (decided _ (whole_agrees shelf)) [
+        | inl whole ↦ subst occasion (sym (ap answer_number (in_range_is_opened range whole))) (range, whole)
+        | inr broken ↦ subst occasion (sym (ap answer_number (gives_10 range broken))) (range, broken)
       ]
 
-  tells : occasion (answerNumber answer)
+  tells : occasion (answer_number answer)
   tells =
-      elim (decided _ (range-agrees (record { n = n; sender = own }))) [
-        | inl range ↦ by-shelf range
-        | inr none ↦ subst occasion (sym (ap answerNumber (gives-20 none))) none
+      elim (decided _ (range_agrees (record { n = n; sender = own }))) [
+        | inl range ↦ by_shelf range
+        | inr none ↦ subst occasion (sym (ap answer_number (gives_20 none))) none
       ]
 
-  pub open-occasions : OpenAnswers n own shelf
-  open-occasions =
+  pub open_occasions : OpenAnswers n own shelf
+  open_occasions =
       record {
-        is-20 = (λ e. subst occasion e tells, λ none. ap answerNumber (gives-20 none));
-        is-10 = (λ e. subst occasion e tells, λ f. ap answerNumber (gives-10 f.0 f.1));
-        is-0 = (λ e. subst occasion e tells, λ f. ap answerNumber (in-range-is-opened f.0 f.1));
-        no_other = in-the-table table (answerNumber answer) tells;
+        is_20 = (λ e. subst occasion e tells, λ none. ap answer_number (gives_20 none));
+        is_10 = (λ e. subst occasion e tells, λ f. ap answer_number (gives_10 f.0 f.1));
+        is_0 = (λ e. subst occasion e tells, λ f. ap answer_number (in_range_is_opened f.0 f.1));
+        no_other = in_the_table table (answer_number answer) tells;
       }

@@ -9,58 +9,58 @@ use Rattle.answers.specs.Answers.{seatNo, report}
 use Rattle.answers.specs.declared.Answer.{Answer}
 use Rattle.answers.specs.declared.Answer.TheVariants.{Opened}
 use Rattle.vectors.specs.Vectors.{zeros}
-use Rattle.window.specs.Window.{freshWindow}
-use Rattle.window.proofs.Sound.{fresh-holds-nothing}
-use Rattle.seat.specs.State.{windowAt, counting}
-use Rattle.seat.specs.Opening.{openAnswer}
-use Rattle.seat.proofs.Opened.{zeros-at}
-use Rattle.seat.proofs.OpenAnswers.{OpenOccasion, opened, no-such-seat, broken-shelf, open-tells-its-occasion}
-use Rattle.seat.proofs.LaidShelf.{zeros-hold-nothing}
-use Rattle.seat.proofs.SteppingSound.{SoundPlace, opening-makes-sound}
+use Rattle.window.specs.Window.{fresh_window}
+use Rattle.window.proofs.Sound.{fresh_holds_nothing}
+use Rattle.seat.specs.State.{window_at, counting}
+use Rattle.seat.specs.Opening.{open_answer}
+use Rattle.seat.proofs.Opened.{zeros_at}
+use Rattle.seat.proofs.OpenAnswers.{OpenOccasion, opened, no_such_seat, broken_shelf, open_tells_its_occasion}
+use Rattle.seat.proofs.LaidShelf.{zeros_hold_nothing}
+use Rattle.seat.proofs.SteppingSound.{SoundPlace, opening_makes_sound}
 use Rattle.session.specs.Protocol.{Fresh}
 use Rattle.promises.specs.Demand3.{Place, FreshlyOpened}
 use Rattle.promises.proofs.Model.{model, count_of}
 
-no-counts : (i : ℕ) → count_of zeros i ≡ 0
-no-counts zero = refl
-no-counts (suc k) = zeros-at k
+no_counts : (i : ℕ) → count_of zeros i ≡ 0
+no_counts zero = refl
+no_counts (suc k) = zeros_at k
 
-no-windows : (n j k : ℕ) → windowAt (counting n (seatNo j)) k ≡ freshWindow
-no-windows n j k = λ i. record { run = zeros-at k i; ahead = zeros-at k i }
+no_windows : (n j k : ℕ) → window_at (counting n (seatNo j)) k ≡ fresh_window
+no_windows n j k = λ i. record { run = zeros_at k i; ahead = zeros_at k i }
 
 -- an open that answers 0 is done
-zero-is-opened : (n j : ℕ) (shelf : List ℕ) {answer : Answer} → OpenOccasion n (seatNo j) shelf answer → (report answer).answer ≡ 0 → answer ≡ Opened
-zero-is-opened n j shelf (opened range whole) is-0 = refl
-zero-is-opened n j shelf (no-such-seat range) is-0 = absurd (omega arith)
-zero-is-opened n j shelf (broken-shelf range whole) is-0 = absurd (omega arith)
+zero_is_opened : (n j : ℕ) (shelf : List ℕ) {answer : Answer} → OpenOccasion n (seatNo j) shelf answer → (report answer).answer ≡ 0 → answer ≡ Opened
+zero_is_opened n j shelf (opened range whole) is_0 = refl
+zero_is_opened n j shelf (no_such_seat range) is_0 = absurd (omega arith)
+zero_is_opened n j shelf (broken_shelf range whole) is_0 = absurd (omega arith)
 
 module _ (n j : ℕ) (place : Place) (fresh : FreshlyOpened n j place) where
-  is-opened : fresh.stepped.answer ≡ Opened
-  is-opened =
-      zero-is-opened n j fresh.lent (open-tells-its-occasion n (seatNo j) fresh.lent fresh.stepped.answer (sym fresh.contract.answered)) fresh.answered-0
+  is_opened : fresh.stepped.answer ≡ Opened
+  is_opened =
+      zero_is_opened n j fresh.lent (open_tells_its_occasion n (seatNo j) fresh.lent fresh.stepped.answer (sym fresh.contract.answered)) fresh.answered_0
 
-  answer-is : openAnswer n (seatNo j) fresh.lent ≡ Opened
-  answer-is = sym fresh.contract.answered ∙ is-opened
+  answer_is : open_answer n (seatNo j) fresh.lent ≡ Opened
+  answer_is = sym fresh.contract.answered ∙ is_opened
 
-  state-is : place.seat ≡ counting n (seatNo j)
-  state-is = fresh.state ∙ rw answer-is at fresh.contract.next
+  state_is : place.seat ≡ counting n (seatNo j)
+  state_is = fresh.state ∙ rw answer_is at fresh.contract.next
 
-  shelf-is : place.shelf ≡ replicate (length fresh.lent) 0
-  shelf-is = rw answer-is at fresh.contract.shelf-after
+  shelf_is : place.shelf ≡ replicate (length fresh.lent) 0
+  shelf_is = rw answer_is at fresh.contract.shelf_after_is
 
-  pub opened-is-sound : SoundPlace place.seat place.shelf
-  opened-is-sound = rw fresh.state (opening-makes-sound n (seatNo j) fresh.lent fresh.stepped place.shelf fresh.contract is-opened)
+  pub opened_is_sound : SoundPlace place.seat place.shelf
+  opened_is_sound = rw fresh.state (opening_makes_sound n (seatNo j) fresh.lent fresh.stepped place.shelf fresh.contract is_opened)
 
-  pub opened-is-numbered : place.seat.own.0 ≡ j
-  opened-is-numbered = rw state-is
+  pub opened_is_numbered : place.seat.own.0 ≡ j
+  opened_is_numbered = rw state_is
 
-  pub opened-is-fresh : Fresh model place
-  opened-is-fresh =
+  pub opened_is_fresh : Fresh model place
+  opened_is_fresh =
       record {
-        no-past = λ i. rw state-is (no-counts i);
-        no-barrier = λ i. rw state-is (no-counts i);
-        none-marked = λ e marked.
+        no_past = λ i. rw state_is (no_counts i);
+        no_barrier = λ i. rw state_is (no_counts i);
+        none_marked = λ e marked.
             true≢false
-            (sym marked.is ∙ rw (state-is, no-windows n j (e.by - 1)) (fresh-holds-nothing e.number marked.number-low));
-        none-shelved = λ packet on. zeros-hold-nothing (length fresh.lent) packet (rw shelf-is at on);
+            (sym marked.is ∙ rw (state_is, no_windows n j (e.by - 1)) (fresh_holds_nothing e.number marked.number_low));
+        none_shelved = λ packet on. zeros_hold_nothing (length fresh.lent) packet (rw shelf_is at on);
       }

@@ -9,26 +9,26 @@ use lib.ListN.{length}
 use Rattle.answers.specs.declared.Refusal.TheVariants.{NotWellFormed, OutputTooShort}
 use Rattle.answers.specs.declared.Answer.{Answer}
 use Rattle.answers.specs.declared.Answer.TheVariants.{Done, Refused}
-use Rattle.packet.specs.Packet.{packetLength}
-use Rattle.packet.specs.Reading.{read_of, readNumber}
-use Rattle.packet.specs.Writing.{editOf, writeAnswer}
+use Rattle.packet.specs.Packet.{packet_length}
+use Rattle.packet.specs.Reading.{read_of, read_number}
+use Rattle.packet.specs.Writing.{edit_of, write_answer}
 use Rattle.packet.specs.declared.Kind.{Kind}
 use Rattle.packet.specs.declared.Header.{Header}
-use Rattle.packet.proofs.Told.{read-formed, read-refused}
-use Rattle.packet.proofs.Laid.{answer-11, answer-14, answer-13, answer-0}
-use Rattle.promises.specs.Demand1.{answerNumber, OneOf, CanBeWritten, WellFormed, WriteAnswers, ReadAnswers}
-use Rattle.promises.proofs.Occasions.{occasionIn, in-the-table}
-use Rattle.promises.proofs.Plain.{decided, fails, writable-agrees, formed-agrees, well-formed-agrees}
+use Rattle.packet.proofs.Told.{read_formed, read_refused}
+use Rattle.packet.proofs.Laid.{answer_11, answer_14, answer_13, answer_0}
+use Rattle.promises.specs.Demand1.{answer_number, OneOf, CanBeWritten, WellFormed, WriteAnswers, ReadAnswers}
+use Rattle.promises.proofs.Occasions.{occasion_in, in_the_table}
+use Rattle.promises.proofs.Plain.{decided, fails, writable_agrees, formed_agrees, well_formed_agrees}
 
 module _ (kind : Kind) (header : Header) (past barrier body out : List ℕ) where
   abbrev Good : Type 0
   Good = CanBeWritten kind header past barrier
 
   abbrev needed : ℕ
-  needed = packetLength header.n (length body)
+  needed = packet_length header.n (length body)
 
   abbrev answer : Answer
-  answer = writeAnswer kind header past barrier body out
+  answer = write_answer kind header past barrier body out
 
   -- each number and its occasion
   abbrev table : List (ℕ × Type 0)
@@ -40,56 +40,56 @@ module _ (kind : Kind) (header : Header) (past barrier body out : List ℕ) wher
       ∷ []
 
   abbrev occasion : ℕ → Type 0
-  occasion k = occasionIn table k
+  occasion k = occasion_in table k
 
-  gives-14 : length body ≤ 200 → (Good → ⊥) → answer ≡ Refused NotWellFormed
-  gives-14 short bad = answer-14 kind header past barrier body out short (fails _ (writable-agrees kind header past barrier) bad)
+  gives_14 : length body ≤ 200 → (Good → ⊥) → answer ≡ Refused NotWellFormed
+  gives_14 short bad = answer_14 kind header past barrier body out short (fails _ (writable_agrees kind header past barrier) bad)
 
-  gives-13 : length body ≤ 200 → Good → length out < needed → answer ≡ Refused OutputTooShort
-  gives-13 short good lack = answer-13 kind header past barrier body out short ((writable-agrees kind header past barrier).0 good) lack
+  gives_13 : length body ≤ 200 → Good → length out < needed → answer ≡ Refused OutputTooShort
+  gives_13 short good lack = answer_13 kind header past barrier body out short ((writable_agrees kind header past barrier).0 good) lack
 
-  pub good-message-is-done : length body ≤ 200 → Good → needed ≤ length out → answer ≡ Done (editOf header past body)
-  good-message-is-done short good room = answer-0 kind header past barrier body out short ((writable-agrees kind header past barrier).0 good) room
+  pub good_message_is_done : length body ≤ 200 → Good → needed ≤ length out → answer ≡ Done (edit_of header past body)
+  good_message_is_done short good room = answer_0 kind header past barrier body out short ((writable_agrees kind header past barrier).0 good) room
 
-  by-room : length body ≤ 200 → Good → occasion (answerNumber answer)
-  by-room short good =
+  by_room : length body ≤ 200 → Good → occasion (answer_number answer)
+  by_room short good =
       elim (dec_lt (length out) needed) [
-        | yes lack ↦ subst occasion (sym (ap answerNumber (gives-13 short good lack))) (short, good, lack)
-        | no more ↦ let room : needed ≤ length out = omega arith in subst occasion (sym (ap answerNumber (good-message-is-done short good room))) (short, good, room)
+        | yes lack ↦ subst occasion (sym (ap answer_number (gives_13 short good lack))) (short, good, lack)
+        | no more ↦ let room : needed ≤ length out = omega arith in subst occasion (sym (ap answer_number (good_message_is_done short good room))) (short, good, room)
       ]
 
-  tells : occasion (answerNumber answer)
+  tells : occasion (answer_number answer)
   tells =
       elim (dec_lt 200 (length body)) [
-        | yes long ↦ subst occasion (sym (ap answerNumber (answer-11 kind header past barrier body out long))) long
+        | yes long ↦ subst occasion (sym (ap answer_number (answer_11 kind header past barrier body out long))) long
         | no more ↦ let short : length body ≤ 200 = omega arith in
-            elim (decided _ (writable-agrees kind header past barrier)) [
-              | inl good ↦ by-room short good
-              | inr bad ↦ subst occasion (sym (ap answerNumber (gives-14 short bad))) (short, bad)
+            elim (decided _ (writable_agrees kind header past barrier)) [
+              | inl good ↦ by_room short good
+              | inr bad ↦ subst occasion (sym (ap answer_number (gives_14 short bad))) (short, bad)
             ]
       ]
 
-  pub write-occasions : WriteAnswers kind header past barrier body out
-  write-occasions =
+  pub write_occasions : WriteAnswers kind header past barrier body out
+  write_occasions =
       record {
-        is-11 = (λ e. subst occasion e tells, λ long. ap answerNumber (answer-11 kind header past barrier body out long));
-        is-14 = (λ e. subst occasion e tells, λ f. ap answerNumber (gives-14 f.0 f.1));
-        is-13 = (λ e. subst occasion e tells, λ f. ap answerNumber (gives-13 f.0 f.1 f.2));
-        is-0 = (λ e. subst occasion e tells, λ f. ap answerNumber (good-message-is-done f.0 f.1 f.2));
-        no_other = in-the-table table (answerNumber answer) tells;
+        is_11 = (λ e. subst occasion e tells, λ long. ap answer_number (answer_11 kind header past barrier body out long));
+        is_14 = (λ e. subst occasion e tells, λ f. ap answer_number (gives_14 f.0 f.1));
+        is_13 = (λ e. subst occasion e tells, λ f. ap answer_number (gives_13 f.0 f.1 f.2));
+        is_0 = (λ e. subst occasion e tells, λ f. ap answer_number (good_message_is_done f.0 f.1 f.2));
+        no_other = in_the_table table (answer_number answer) tells;
       }
 
-pub read-occasions : (packet : List ℕ) → ReadAnswers packet
-read-occasions packet = record { is-14 = (λ e well. absurd (omega (arith, e, good well)), bad); is-0 = (zero, good); no_other = either }
+pub read_occasions : (packet : List ℕ) → ReadAnswers packet
+read_occasions packet = record { is_14 = (λ e well. absurd (omega (arith, e, good well)), bad); is_0 = (zero, good); no_other = either }
   where
-    good : WellFormed packet → readNumber (read_of packet).answer ≡ 0
-    good well = rw (read-formed packet ((formed-agrees packet).0 well))
+    good : WellFormed packet → read_number (read_of packet).answer ≡ 0
+    good well = rw (read_formed packet ((formed_agrees packet).0 well))
 
-    bad : (WellFormed packet → ⊥) → readNumber (read_of packet).answer ≡ 14
-    bad none = rw (read-refused packet (λ z. none ((formed-agrees packet).1 z)))
+    bad : (WellFormed packet → ⊥) → read_number (read_of packet).answer ≡ 14
+    bad none = rw (read_refused packet (λ z. none ((formed_agrees packet).1 z)))
 
-    zero : readNumber (read_of packet).answer ≡ 0 → WellFormed packet
-    zero e = elim (decided _ (well-formed-agrees packet)) [ inl well ↦ well | inr none ↦ absurd (omega (arith, e, bad none)) ]
+    zero : read_number (read_of packet).answer ≡ 0 → WellFormed packet
+    zero e = elim (decided _ (well_formed_agrees packet)) [ inl well ↦ well | inr none ↦ absurd (omega (arith, e, bad none)) ]
 
-    either : OneOf (readNumber (read_of packet).answer) (14 ∷ 0 ∷ [])
-    either = elim (decided _ (well-formed-agrees packet)) [ inl well ↦ inr (inl (good well)) | inr none ↦ inl (bad none) ]
+    either : OneOf (read_number (read_of packet).answer) (14 ∷ 0 ∷ [])
+    either = elim (decided _ (well_formed_agrees packet)) [ inl well ↦ inr (inl (good well)) | inr none ↦ inl (bad none) ]

@@ -7,7 +7,7 @@ use Rattle.answers.specs.Answers.{seatNo, editNo}
 use Rattle.answers.specs.declared.Refusal.TheVariants.{Repeated}
 use Rattle.answers.specs.declared.Answer.{Answer}
 use Rattle.answers.specs.declared.Answer.TheVariants.{Done, Shelved, NothingReady, Refused}
-use Rattle.shelf.specs.Shelf.{slot_of, freeSlot}
+use Rattle.shelf.specs.Shelf.{slot_of, free_slot}
 use Rattle.seat.specs.Sending.{Sent}
 use Rattle.seat.specs.Arriving.{Arrived}
 use Rattle.seat.specs.Releasing.{Released}
@@ -18,14 +18,14 @@ use Rattle.seat.proofs.Computed.{computed}
 
 -- ---- packets, and the room of an output
 
-unfoldable pub packet-1-1 : List ℕ
-packet-1-1 = 0x12 ∷ 0x00 ∷ 0x00 ∷ 0x00 ∷ 0x01 ∷ 0x00 ∷ 0x00 ∷ 0x00 ∷ 0x00 ∷ 0x00 ∷ 0x00 ∷ 0x00 ∷ 0x00 ∷ 0x00 ∷ 0x00 ∷ []
+unfoldable pub packet_1_1 : List ℕ
+packet_1_1 = 0x12 ∷ 0x00 ∷ 0x00 ∷ 0x00 ∷ 0x01 ∷ 0x00 ∷ 0x00 ∷ 0x00 ∷ 0x00 ∷ 0x00 ∷ 0x00 ∷ 0x00 ∷ 0x00 ∷ 0x00 ∷ 0x00 ∷ []
 
-unfoldable pub packet-1-2 : List ℕ
-packet-1-2 = 0x12 ∷ 0x08 ∷ 0x00 ∷ 0x00 ∷ 0x02 ∷ 0x00 ∷ 0x00 ∷ 0x00 ∷ 0x00 ∷ 0x00 ∷ 0x01 ∷ 0x00 ∷ 0x00 ∷ 0x00 ∷ 0x00 ∷ []
+unfoldable pub packet_1_2 : List ℕ
+packet_1_2 = 0x12 ∷ 0x08 ∷ 0x00 ∷ 0x00 ∷ 0x02 ∷ 0x00 ∷ 0x00 ∷ 0x00 ∷ 0x00 ∷ 0x00 ∷ 0x01 ∷ 0x00 ∷ 0x00 ∷ 0x00 ∷ 0x00 ∷ []
 
-unfoldable pub packet-2-1 : List ℕ
-packet-2-1 = 0x12 ∷ 0x10 ∷ 0x00 ∷ 0x00 ∷ 0x02 ∷ 0x00 ∷ 0x01 ∷ 0x00 ∷ 0x00 ∷ 0x00 ∷ 0x02 ∷ 0x00 ∷ 0x00 ∷ 0x00 ∷ 0x00 ∷ []
+unfoldable pub packet_2_1 : List ℕ
+packet_2_1 = 0x12 ∷ 0x10 ∷ 0x00 ∷ 0x00 ∷ 0x02 ∷ 0x00 ∷ 0x01 ∷ 0x00 ∷ 0x00 ∷ 0x00 ∷ 0x02 ∷ 0x00 ∷ 0x00 ∷ 0x00 ∷ 0x00 ∷ []
 
 unfoldable pub room : List ℕ
 room = replicate 15 0
@@ -41,55 +41,55 @@ none = counts 0 0 0
 abbrev pub state : ℕ → List ℕ → List ℕ → List ℕ → Seat
 state own past barrier run = record { n = 3; own = seatNo own; past = past; barrier = barrier; run = run; ahead = none }
 
-unfoldable pub one-0 : Seat
-one-0 = state 1 none none none
+unfoldable pub one_0 : Seat
+one_0 = state 1 none none none
 
-unfoldable pub one-1 : Seat
-one-1 = state 1 (counts 1 0 0) none none
+unfoldable pub one_1 : Seat
+one_1 = state 1 (counts 1 0 0) none none
 
-unfoldable pub one-2 : Seat
-one-2 = state 1 (counts 2 0 0) (counts 2 0 0) none
+unfoldable pub one_2 : Seat
+one_2 = state 1 (counts 2 0 0) (counts 2 0 0) none
 
-unfoldable pub two-0 : Seat
-two-0 = state 2 none none none
+unfoldable pub two_0 : Seat
+two_0 = state 2 none none none
 
-unfoldable pub two-1 : Seat
-two-1 = state 2 (counts 1 0 0) none (counts 1 0 0)
+unfoldable pub two_1 : Seat
+two_1 = state 2 (counts 1 0 0) none (counts 1 0 0)
 
-unfoldable pub two-2 : Seat
-two-2 = state 2 (counts 2 0 0) (counts 2 0 0) (counts 2 0 0)
+unfoldable pub two_2 : Seat
+two_2 = state 2 (counts 2 0 0) (counts 2 0 0) (counts 2 0 0)
 
-unfoldable pub two-3 : Seat
-two-3 = state 2 (counts 2 1 0) (counts 2 0 0) (counts 2 0 0)
+unfoldable pub two_3 : Seat
+two_3 = state 2 (counts 2 1 0) (counts 2 0 0) (counts 2 0 0)
 
-unfoldable pub three-0 : Seat
-three-0 = state 3 none none none
+unfoldable pub three_0 : Seat
+three_0 = state 3 none none none
 
-unfoldable pub three-1 : Seat
-three-1 = state 3 (counts 1 0 0) none (counts 1 0 0)
+unfoldable pub three_1 : Seat
+three_1 = state 3 (counts 1 0 0) none (counts 1 0 0)
 
-unfoldable pub three-2 : Seat
-three-2 = state 3 (counts 2 0 0) (counts 2 0 0) (counts 2 0 0)
+unfoldable pub three_2 : Seat
+three_2 = state 3 (counts 2 0 0) (counts 2 0 0) (counts 2 0 0)
 
-unfoldable pub three-3 : Seat
-three-3 = state 3 (counts 2 1 0) (counts 2 0 0) (counts 2 1 0)
+unfoldable pub three_3 : Seat
+three_3 = state 3 (counts 2 1 0) (counts 2 0 0) (counts 2 1 0)
 
 -- ---- shelves
 
 unfoldable pub empty : List ℕ
 empty = replicate 536 0
 
-unfoldable pub shelf-2 : List ℕ
+unfoldable pub shelf_2 : List ℕ
 unfolding computed
-shelf-2 = slot_of packet-1-2 ++ freeSlot
+shelf_2 = slot_of packet_1_2 ++ free_slot
 
-unfoldable pub shelf-3a : List ℕ
+unfoldable pub shelf_3a : List ℕ
 unfolding computed
-shelf-3a = slot_of packet-2-1 ++ freeSlot
+shelf_3a = slot_of packet_2_1 ++ free_slot
 
-unfoldable pub shelf-3b : List ℕ
+unfoldable pub shelf_3b : List ℕ
 unfolding computed
-shelf-3b = slot_of packet-2-1 ++ slot_of packet-1-2
+shelf_3b = slot_of packet_2_1 ++ slot_of packet_1_2
 
 -- ---- the calls
 
@@ -101,57 +101,57 @@ gives seat answer = record { seat = seat; answer = answer }
 
 -- all that stands above, at once
 values : ℕ
-unfolding computed packet-1-1 packet-1-2 packet-2-1 room one-0 one-1 one-2 two-0 two-1 two-2 two-3 three-0 three-1 three-2 three-3 empty shelf-2 shelf-3a shelf-3b
+unfolding computed packet_1_1 packet_1_2 packet_2_1 room one_0 one_1 one_2 two_0 two_1 two_2 two_3 three_0 three_1 three_2 three_3 empty shelf_2 shelf_3a shelf_3b
 values = 0
 
-pub call-1 : Sent one-0 Ordinary [] room (gives one-1 (done 1 1 15)) packet-1-1
+pub call_1 : Sent one_0 Ordinary [] room (gives one_1 (done 1 1 15)) packet_1_1
 unfolding values
-call-1 = record { answered = refl; next = refl; output = refl }
+call_1 = record { answered = refl; next = refl; output = refl }
 
-pub call-2 : Sent one-1 Causal [] room (gives one-2 (done 1 2 15)) packet-1-2
+pub call_2 : Sent one_1 Causal [] room (gives one_2 (done 1 2 15)) packet_1_2
 unfolding values
-call-2 = record { answered = refl; next = refl; output = refl }
+call_2 = record { answered = refl; next = refl; output = refl }
 
-pub call-3 : Arrived two-0 packet-1-2 empty (gives two-0 Shelved) shelf-2
+pub call_3 : Arrived two_0 packet_1_2 empty (gives two_0 Shelved) shelf_2
 unfolding values
-call-3 = record { answered = refl; next = refl; shelf-after = refl }
+call_3 = record { answered = refl; next = refl; shelf_after_is = refl }
 
-pub call-4 : Arrived two-0 packet-1-1 shelf-2 (gives two-1 (done 1 1 0)) shelf-2
+pub call_4 : Arrived two_0 packet_1_1 shelf_2 (gives two_1 (done 1 1 0)) shelf_2
 unfolding values
-call-4 = record { answered = refl; next = refl; shelf-after = refl }
+call_4 = record { answered = refl; next = refl; shelf_after_is = refl }
 
-pub call-5 : Released two-1 shelf-2 [] (gives two-2 (done 1 2 0)) empty []
+pub call_5 : Released two_1 shelf_2 [] (gives two_2 (done 1 2 0)) empty []
 unfolding values
-call-5 = record { answered = refl; next = refl; shelf-after = refl; output = refl }
+call_5 = record { answered = refl; next = refl; shelf_after_is = refl; output = refl }
 
-pub call-6 : Sent two-2 Ordinary [] room (gives two-3 (done 2 1 15)) packet-2-1
+pub call_6 : Sent two_2 Ordinary [] room (gives two_3 (done 2 1 15)) packet_2_1
 unfolding values
-call-6 = record { answered = refl; next = refl; output = refl }
+call_6 = record { answered = refl; next = refl; output = refl }
 
-pub call-7 : Arrived three-0 packet-2-1 empty (gives three-0 Shelved) shelf-3a
+pub call_7 : Arrived three_0 packet_2_1 empty (gives three_0 Shelved) shelf_3a
 unfolding values
-call-7 = record { answered = refl; next = refl; shelf-after = refl }
+call_7 = record { answered = refl; next = refl; shelf_after_is = refl }
 
-pub call-8 : Arrived three-0 packet-1-2 shelf-3a (gives three-0 Shelved) shelf-3b
+pub call_8 : Arrived three_0 packet_1_2 shelf_3a (gives three_0 Shelved) shelf_3b
 unfolding values
-call-8 = record { answered = refl; next = refl; shelf-after = refl }
+call_8 = record { answered = refl; next = refl; shelf_after_is = refl }
 
-pub call-9 : Arrived three-0 packet-1-2 shelf-3b (gives three-0 (Refused Repeated)) shelf-3b
+pub call_9 : Arrived three_0 packet_1_2 shelf_3b (gives three_0 (Refused Repeated)) shelf_3b
 unfolding values
-call-9 = record { answered = refl; next = refl; shelf-after = refl }
+call_9 = record { answered = refl; next = refl; shelf_after_is = refl }
 
-pub call-10 : Arrived three-0 packet-1-1 shelf-3b (gives three-1 (done 1 1 0)) shelf-3b
+pub call_10 : Arrived three_0 packet_1_1 shelf_3b (gives three_1 (done 1 1 0)) shelf_3b
 unfolding values
-call-10 = record { answered = refl; next = refl; shelf-after = refl }
+call_10 = record { answered = refl; next = refl; shelf_after_is = refl }
 
-pub call-11 : Released three-1 shelf-3b [] (gives three-2 (done 1 2 0)) shelf-3a []
+pub call_11 : Released three_1 shelf_3b [] (gives three_2 (done 1 2 0)) shelf_3a []
 unfolding values
-call-11 = record { answered = refl; next = refl; shelf-after = refl; output = refl }
+call_11 = record { answered = refl; next = refl; shelf_after_is = refl; output = refl }
 
-pub call-12 : Released three-2 shelf-3a [] (gives three-3 (done 2 1 0)) empty []
+pub call_12 : Released three_2 shelf_3a [] (gives three_3 (done 2 1 0)) empty []
 unfolding values
-call-12 = record { answered = refl; next = refl; shelf-after = refl; output = refl }
+call_12 = record { answered = refl; next = refl; shelf_after_is = refl; output = refl }
 
-pub call-13 : Released three-3 empty [] (gives three-3 NothingReady) empty []
+pub call_13 : Released three_3 empty [] (gives three_3 NothingReady) empty []
 unfolding values
-call-13 = record { answered = refl; next = refl; shelf-after = refl; output = refl }
+call_13 = record { answered = refl; next = refl; shelf_after_is = refl; output = refl }

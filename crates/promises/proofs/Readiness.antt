@@ -7,48 +7,48 @@ use native.Mathlib.Decide.{dec_lt}
 use native.Mathlib.Omega.{arith}
 use lib.ListN.{get_or}
 use borrow.Author.Tests.{leb-true}
-use Rattle.vectors.proofs.Tests.{within-at, within_of}
-use Rattle.vectors.proofs.Vector.{length-vector}
+use Rattle.vectors.proofs.Tests.{within_at, within_of}
+use Rattle.vectors.proofs.Vector.{length_vector}
 use Rattle.window.specs.Window.{handed}
-use Rattle.window.proofs.Handed.{up-to-run-is-handed, run-test-is-set-test}
-use Rattle.packet.specs.Packet.{barrierOf}
-use Rattle.seat.specs.State.{windowAt, soundState}
+use Rattle.window.proofs.Handed.{up_to_run_is_handed, run_test_is_set_test}
+use Rattle.packet.specs.Packet.{barrier_of}
+use Rattle.seat.specs.State.{window_at, sound_state}
 use Rattle.seat.specs.HandingOver.{ready}
-use Rattle.seat.proofs.Sound.{sound-says}
+use Rattle.seat.proofs.Sound.{sound_says}
 use Rattle.session.specs.Protocol.{Ready}
 use Rattle.promises.specs.Demand3.{Place}
-use Rattle.promises.proofs.Model.{model, count_of, MarkedAt, no-count-beyond}
+use Rattle.promises.proofs.Model.{model, count_of, MarkedAt, no_count_beyond}
 
 module _ (place : Place) (packet : List ℕ) where
-  covered-is-marked : ready place.seat (barrierOf packet) ≡ true → (by number : ℕ) → 1 ≤ number → number ≤ count_of (barrierOf packet) by
+  covered_is_marked : ready place.seat (barrier_of packet) ≡ true → (by number : ℕ) → 1 ≤ number → number ≤ count_of (barrier_of packet) by
       → MarkedAt place (record { by = by; number = number })
-  covered-is-marked is zero number low high = absurd (omega arith)
-  covered-is-marked is (suc k) number low high =
+  covered_is_marked is zero number low high = absurd (omega arith)
+  covered_is_marked is (suc k) number low high =
       let same : suc k - 1 ≡ k = omega arith in
       elim (dec_lt k 16) [
         | yes inside ↦ record {
-          by-low = omega arith;
-          number-low = low;
+          by_low = omega arith;
+          number_low = low;
           is = rw same
-              (up-to-run-is-handed (windowAt place.seat k) number (omega (arith, within-at (barrierOf packet) place.seat.run is k inside)));
+              (up_to_run_is_handed (window_at place.seat k) number (omega (arith, within_at (barrier_of packet) place.seat.run is k inside)));
         }
-        | no beyond ↦ absurd (omega (arith, no-count-beyond (barrierOf packet) (length-vector _ _) k beyond))
+        | no beyond ↦ absurd (omega (arith, no_count_beyond (barrier_of packet) (length_vector _ _) k beyond))
       ]
 
-  pub test-says-ready : ready place.seat (barrierOf packet) ≡ true → Ready model place packet
-  test-says-ready is e (low, high) = covered-is-marked is e.by e.number low high
+  pub test_says_ready : ready place.seat (barrier_of packet) ≡ true → Ready model place packet
+  test_says_ready is e (low, high) = covered_is_marked is e.by e.number low high
 
-  pub ready-passes-test : soundState place.seat ≡ true → Ready model place packet → ready place.seat (barrierOf packet) ≡ true
-  ready-passes-test sound is = within_of (barrierOf packet) place.seat.run each
+  pub ready_passes_test : sound_state place.seat ≡ true → Ready model place packet → ready place.seat (barrier_of packet) ≡ true
+  ready_passes_test sound is = within_of (barrier_of packet) place.seat.run each
     where
-      handed-here : (k number : ℕ) → 1 ≤ number → number ≤ get_or (barrierOf packet) k 0 → handed (windowAt place.seat k) number ≡ true
-      handed-here k number low high =
+      handed_here : (k number : ℕ) → 1 ≤ number → number ≤ get_or (barrier_of packet) k 0 → handed (window_at place.seat k) number ≡ true
+      handed_here k number low high =
           let same : suc k - 1 ≡ k = omega arith in
           rw same at (is (record { by = suc k; number = number }) (low, high)).is
 
-      each : (k : ℕ) → k < 16 → get_or (barrierOf packet) k 0 ≤ get_or place.seat.run k 0
+      each : (k : ℕ) → k < 16 → get_or (barrier_of packet) k 0 ≤ get_or place.seat.run k 0
       each k inside =
-          let window = windowAt place.seat k in
-          let barrier = get_or (barrierOf packet) k 0 in
+          let window = window_at place.seat k in
+          let barrier = get_or (barrier_of packet) k 0 in
           leb-true barrier window.run
-          ((run-test-is-set-test window barrier ((sound-says place.seat sound).windows k inside).next-clear).1 (handed-here k))
+          ((run_test_is_set_test window barrier ((sound_says place.seat sound).windows k inside).next_clear).1 (handed_here k))

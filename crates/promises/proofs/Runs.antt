@@ -6,19 +6,19 @@ use Rattle.session.specs.Events.{Trace}
 use Rattle.session.specs.Protocol.{opened}
 use Rattle.promises.specs.Demand3.{Place, Letter}
 use Rattle.promises.specs.Demand3.{Session, opening, sending, arriving, releasing}
-use Rattle.promises.proofs.Opening.{opened-is-sound, opened-is-numbered, opened-is-fresh}
+use Rattle.promises.proofs.Opening.{opened_is_sound, opened_is_numbered, opened_is_fresh}
 use Rattle.promises.proofs.Goes.{Goes}
-use Rattle.promises.proofs.AfterSend.{after-a-send}
-use Rattle.promises.proofs.AfterArrival.{after-an-arrival}
-use Rattle.promises.proofs.AfterRelease.{after-a-release}
+use Rattle.promises.proofs.AfterSend.{after_a_send}
+use Rattle.promises.proofs.AfterArrival.{after_an_arrival}
+use Rattle.promises.proofs.AfterRelease.{after_a_release}
 
-pub session-goes : {n : ℕ} {places : ℕ → Place} {letters : List Letter} {trace : Trace} → Session n places letters trace → Goes n places letters trace
-session-goes {n} (opening {places} fresh) =
+pub session_goes : {n : ℕ} {places : ℕ → Place} {letters : List Letter} {trace : Trace} → Session n places letters trace → Goes n places letters trace
+session_goes {n} (opening {places} fresh) =
     record {
-      run = opened (λ j seated. opened-is-fresh n j (places j) (fresh j seated));
-      placed = λ j seated. record { sound = opened-is-sound n j (places j) (fresh j seated); numbered = opened-is-numbered n j (places j) (fresh j seated) };
+      run = opened (λ j seated. opened_is_fresh n j (places j) (fresh j seated));
+      placed = λ j seated. record { sound = opened_is_sound n j (places j) (fresh j seated); numbered = opened_is_numbered n j (places j) (fresh j seated) };
       posted = λ letter none. absurd (Memᴰ.not-nil none);
     }
-session-goes (sending j wish body out output stepped session seated meets) = after-a-send (session-goes session) j seated wish body out stepped output meets
-session-goes (arriving j letter shelf stepped session seated mail meets) = after-an-arrival (session-goes session) j seated letter mail stepped shelf meets
-session-goes (releasing j out shelf output stepped session seated meets) = after-a-release (session-goes session) j seated out stepped shelf output meets
+session_goes (sending j wish body out output stepped session seated meets) = after_a_send (session_goes session) j seated wish body out stepped output meets
+session_goes (arriving j letter shelf stepped session seated mail meets) = after_an_arrival (session_goes session) j seated letter mail stepped shelf meets
+session_goes (releasing j out shelf output stepped session seated meets) = after_a_release (session_goes session) j seated out stepped shelf output meets

@@ -8,91 +8,91 @@ use native.Mathlib.Omega.{arith}
 use lib.ListN.{length}
 use Rattle.answers.specs.declared.SeatNo.{SeatNo}
 use Rattle.vectors.specs.Vectors.{entry}
-use Rattle.packet.specs.Packet.{senderOf, kind_of, past_of, barrierOf}
+use Rattle.packet.specs.Packet.{sender_of, kind_of, past_of, barrier_of}
 use Rattle.packet.specs.Reading.{headed, message}
 use Rattle.packet.specs.declared.Kind.{Kind}
 use Rattle.packet.specs.declared.Kind.TheVariants.{Ordinary, Causal}
 use Rattle.packet.proofs.Told.{Told, told}
-use Rattle.seat.specs.State.{headerOf, ownCount, windowAt, soundState, Held}
-use Rattle.seat.specs.Sending.{barrierSent, pastSent, packetSent, barrierAfter, sentSeat}
+use Rattle.seat.specs.State.{header_of, own_count, window_at, sound_state, Held}
+use Rattle.seat.specs.Sending.{barrier_sent, past_sent, packet_sent, barrier_after, sent_seat}
 use Rattle.seat.specs.declared.Seat.{Seat}
-use Rattle.seat.proofs.Sound.{sound-says}
-use Rattle.seat.proofs.Sent.{sending-sets-past, sending-sets-barrier, sending-keeps-windows, other-counts-stay, own-count-rises, past-sent-is-counts}
-use Rattle.seat.proofs.SentPacket.{barrier-sent-is-counts, sent-packet-reads-back}
+use Rattle.seat.proofs.Sound.{sound_says}
+use Rattle.seat.proofs.Sent.{sending_sets_past, sending_sets_barrier, sending_keeps_windows, other_counts_stay, own_count_rises, past_sent_is_counts}
+use Rattle.seat.proofs.SentPacket.{barrier_sent_is_counts, sent_packet_reads_back}
 use Rattle.seat.proofs.CarriedCounts.{CarriesCounts}
 use Rattle.session.specs.Events.{Edit}
 use Rattle.session.specs.Protocol.{by_kind, edit, Sends}
-use Rattle.promises.specs.Demand3.{kindAs}
-use Rattle.promises.proofs.Model.{model, count_of, MarkedAt, count-is-entry, edit-is}
+use Rattle.promises.specs.Demand3.{kind_as}
+use Rattle.promises.proofs.Model.{model, count_of, MarkedAt, count_is_entry, edit_is}
 
-module _ (seat : Seat) (sound : soundState seat ≡ true) (held : Held seat) (not_full : ownCount seat < 65535) (kind : Kind) (body : List ℕ) (short : length body ≤ 200) where
+module _ (seat : Seat) (sound : sound_state seat ≡ true) (held : Held seat) (not_full : own_count seat < 65535) (kind : Kind) (body : List ℕ) (short : length body ≤ 200) where
   abbrev packet : List ℕ
-  packet = packetSent seat kind body
+  packet = packet_sent seat kind body
 
   -- what is read back
-  reading : Told packet (message kind (headerOf seat) (pastSent seat) (barrierSent seat kind)) (headed kind (headerOf seat))
-  reading = told packet _ (sym (sent-packet-reads-back seat sound held not_full kind body short)) _ refl
+  reading : Told packet (message kind (header_of seat) (past_sent seat) (barrier_sent seat kind)) (headed kind (header_of seat))
+  reading = told packet _ (sym (sent_packet_reads_back seat sound held not_full kind body short)) _ refl
 
-  pub sent-by-own : senderOf packet ≡ seat.own
-  sent-by-own = sym reading.sender
+  pub sent_by_own : sender_of packet ≡ seat.own
+  sent_by_own = sym reading.sender
 
-  pub sent-by-number : (senderOf packet).0 ≡ seat.own.0
-  sent-by-number = ap (λ (s : SeatNo). s.0) sent-by-own
+  pub sent_by_number : (sender_of packet).0 ≡ seat.own.0
+  sent_by_number = ap (λ (s : SeatNo). s.0) sent_by_own
 
-  pub sent-kind : kind_of packet ≡ kind
-  sent-kind = sym reading.kind
+  pub sent_kind : kind_of packet ≡ kind
+  sent_kind = sym reading.kind
 
-  pub sent-past : past_of packet ≡ pastSent seat
-  sent-past = sym reading.past
+  pub sent_past : past_of packet ≡ past_sent seat
+  sent_past = sym reading.past
 
-  sent-barrier : barrierOf packet ≡ barrierSent seat kind
-  sent-barrier = sym reading.barrier
+  sent_barrier : barrier_of packet ≡ barrier_sent seat kind
+  sent_barrier = sym reading.barrier
 
-  pub sent-packet-carries-counts : CarriesCounts packet
-  sent-packet-carries-counts = record { past = rw sent-past (past-sent-is-counts seat sound held not_full); barrier = rw sent-barrier (barrier-sent-is-counts seat sound held kind) }
+  pub sent_packet_carries_counts : CarriesCounts packet
+  sent_packet_carries_counts = record { past = rw sent_past (past_sent_is_counts seat sound held not_full); barrier = rw sent_barrier (barrier_sent_is_counts seat sound held kind) }
 
-  pub own-low : 1 ≤ seat.own.0
-  own-low = (sound-says seat sound).own-low
+  pub own_low : 1 ≤ seat.own.0
+  own_low = (sound_says seat sound).own_low
 
-  own-count-sent : count_of (pastSent seat) seat.own.0 ≡ suc (count_of seat.past seat.own.0)
-  own-count-sent =
-      count-is-entry (pastSent seat) seat.own.0 own-low
-      ∙ omega (arith, own-count-rises seat sound held, count-is-entry seat.past seat.own.0 own-low)
+  own_count_sent : count_of (past_sent seat) seat.own.0 ≡ suc (count_of seat.past seat.own.0)
+  own_count_sent =
+      count_is_entry (past_sent seat) seat.own.0 own_low
+      ∙ omega (arith, own_count_rises seat sound held, count_is_entry seat.past seat.own.0 own_low)
 
-  other-counts-sent : (i : ℕ) → i ≢ seat.own.0 → count_of (pastSent seat) i ≡ count_of seat.past i
-  other-counts-sent zero other = refl
-  other-counts-sent (suc k) other = other-counts-stay seat k (λ same. other (omega (arith, own-low)))
+  other_counts_sent : (i : ℕ) → i ≢ seat.own.0 → count_of (past_sent seat) i ≡ count_of seat.past i
+  other_counts_sent zero other = refl
+  other_counts_sent (suc k) other = other_counts_stay seat k (λ same. other (omega (arith, own_low)))
 
-  barrier-count : (a : Kind) (i : ℕ) → count_of (barrierSent seat a) i ≡ by_kind (kindAs a) (count_of seat.barrier i) (count_of seat.past i)
-  barrier-count Ordinary i = refl
-  barrier-count Causal i = refl
+  barrier_count : (a : Kind) (i : ℕ) → count_of (barrier_sent seat a) i ≡ by_kind (kind_as a) (count_of seat.barrier i) (count_of seat.past i)
+  barrier_count Ordinary i = refl
+  barrier_count Causal i = refl
 
-  barrier-count-after : (a : Kind) (i : ℕ) → count_of (barrierAfter seat a) i ≡ by_kind (kindAs a) (count_of seat.barrier i) (count_of (pastSent seat) i)
-  barrier-count-after Ordinary i = refl
-  barrier-count-after Causal i = refl
+  barrier_count_after : (a : Kind) (i : ℕ) → count_of (barrier_after seat a) i ≡ by_kind (kind_as a) (count_of seat.barrier i) (count_of (past_sent seat) i)
+  barrier_count_after Ordinary i = refl
+  barrier_count_after Causal i = refl
 
-  marks_stay : (shelf : List ℕ) (e : Edit) → (a b : Seat) → ((k : ℕ) → windowAt b k ≡ windowAt a k)
+  marks_stay : (shelf : List ℕ) (e : Edit) → (a b : Seat) → ((k : ℕ) → window_at b k ≡ window_at a k)
       → MarkedAt (record { seat = a; shelf = shelf }) e → MarkedAt (record { seat = b; shelf = shelf }) e
   marks_stay shelf e a b same marked =
-      record { by-low = marked.by-low; number-low = marked.number-low; is = rw (same (e.by - 1)) marked.is }
+      record { by_low = marked.by_low; number_low = marked.number_low; is = rw (same (e.by - 1)) marked.is }
 
-  pub send-is-lines-1-to-4 : (shelf : List ℕ) → Sends model packet (record { seat = seat; shelf = shelf }) (record { seat = sentSeat seat kind; shelf = shelf })
-  send-is-lines-1-to-4 shelf =
+  pub send_is_lines_1_to_4 : (shelf : List ℕ) → Sends model packet (record { seat = seat; shelf = shelf }) (record { seat = sent_seat seat kind; shelf = shelf })
+  send_is_lines_1_to_4 shelf =
       record {
-        barrier-sent = λ i. rw (sent-barrier, sent-kind) (barrier-count kind i);
-        own-past-sent = rw (sent-past, sent-by-number) own-count-sent;
-        past-sent = λ i other. rw sent-past (other-counts-sent i (λ same. other (same ∙ sym sent-by-number)));
-        past_after = λ i. rw (sending-sets-past seat kind, sent-past);
-        barrier-after = λ i. rw (sending-sets-barrier seat kind, sent-kind, sent-past) (barrier-count-after kind i);
-        marks-after = λ e. (
-          marks_stay shelf e (sentSeat seat kind) seat (λ k. sym (sending-keeps-windows seat kind k)),
-          marks_stay shelf e seat (sentSeat seat kind) (sending-keeps-windows seat kind),
+        barrier_sent_is = λ i. rw (sent_barrier, sent_kind) (barrier_count kind i);
+        own_past_sent = rw (sent_past, sent_by_number) own_count_sent;
+        past_sent_is = λ i other. rw sent_past (other_counts_sent i (λ same. other (same ∙ sym sent_by_number)));
+        past_after = λ i. rw (sending_sets_past seat kind, sent_past);
+        barrier_after_is = λ i. rw (sending_sets_barrier seat kind, sent_kind, sent_past) (barrier_count_after kind i);
+        marks_after = λ e. (
+          marks_stay shelf e (sent_seat seat kind) seat (λ k. sym (sending_keeps_windows seat kind k)),
+          marks_stay shelf e seat (sent_seat seat kind) (sending_keeps_windows seat kind),
         );
-        shelf-after = λ p. (λ on. on, λ on. on);
+        shelf_after_is = λ p. (λ on. on, λ on. on);
       }
 
   -- the edit that it carries is the one that the seat's own count comes to
-  pub sent-edit : edit model packet ≡ record { by = seat.own.0; number = entry (pastSent seat) seat.own }
-  sent-edit =
-      edit-is packet
-      ∙ (λ i. record { by = (sent-by-own i).0; number = entry (sent-past i) (sent-by-own i) })
+  pub sent_edit : edit model packet ≡ record { by = seat.own.0; number = entry (past_sent seat) seat.own }
+  sent_edit =
+      edit_is packet
+      ∙ (λ i. record { by = (sent_by_own i).0; number = entry (sent_past i) (sent_by_own i) })

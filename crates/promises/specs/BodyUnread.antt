@@ -3,13 +3,13 @@
 -- what is written.
 use Rattle.std.specs.Prelude.{ℕ, ◌<◌, ◌≡◌, ◌⊎◌, false, List, ◌++◌, length, get_or}
 use Rattle.answers.specs.declared.Answer.{Answer}
-use Rattle.packet.specs.Packet.{seatsOf, body_at}
+use Rattle.packet.specs.Packet.{seats_of, body_at}
 use Rattle.packet.specs.Reading.{read_of, body_of}
 use Rattle.packet.specs.Writing.{Written}
 use Rattle.packet.specs.declared.Kind.{Kind}
 use Rattle.packet.specs.declared.Header.{Header}
-use Rattle.shelf.specs.Shelf.{slots, isFree, slot_of, laid, freeSlot}
-use Rattle.seat.specs.Stock.{packetAt}
+use Rattle.shelf.specs.Shelf.{slots, is_free, slot_of, laid, free_slot}
+use Rattle.seat.specs.Stock.{packet_at}
 use Rattle.seat.specs.Sending.{Sent}
 use Rattle.seat.specs.Arriving.{Arrived}
 use Rattle.seat.specs.Releasing.{Released}
@@ -20,13 +20,13 @@ use Rattle.seat.specs.declared.Stepped.{Stepped}
 -- Two packets are alike but for their bodies: as long, and the same bytes up to where the body starts.
 pub record Alike (one other : List ℕ) : Type 0 where
   pub same_length : length one ≡ length other
-  pub same-front : (k : ℕ) → k < body_at (seatsOf one) → get_or one k 0 ≡ get_or other k 0
+  pub same_front : (k : ℕ) → k < body_at (seats_of one) → get_or one k 0 ≡ get_or other k 0
 
 -- Two shelves are alike but for bodies: as long, the same slots free, and on the others packets that are alike.
 pub record AlikeShelves (one other : List ℕ) : Type 0 where
   pub same_length : length one ≡ length other
-  pub same-free : (i : ℕ) → i < slots one → isFree one i ≡ isFree other i
-  pub same-packets : (i : ℕ) → i < slots one → isFree one i ≡ false → Alike (packetAt one i) (packetAt other i)
+  pub same_free : (i : ℕ) → i < slots one → is_free one i ≡ is_free other i
+  pub same_packets : (i : ℕ) → i < slots one → is_free one i ≡ false → Alike (packet_at one i) (packet_at other i)
 
 -- Two outputs are the same, or the same but for a body that stands in each at the same place.
 abbrev pub SameButFor : List ℕ → List ℕ → List ℕ → List ℕ → Type 0
@@ -53,5 +53,5 @@ pub record BodyUnread : Type 0 where
   pub releasing : (seat : Seat) (shelf shelf-other out : List ℕ) (stepped stepped-other : Stepped) (left left_other out-left out-other : List ℕ)
       → AlikeShelves shelf shelf-other → Released seat shelf out stepped left out-left → Released seat shelf-other out stepped-other left_other out-other
       → (stepped ≡ stepped-other)
-      × ((i : ℕ) × SameSlotChanges shelf shelf-other left left_other i freeSlot freeSlot
-      × SameButFor (body_of (packetAt shelf i)) (body_of (packetAt shelf-other i)) out-left out-other)
+      × ((i : ℕ) × SameSlotChanges shelf shelf-other left left_other i free_slot free_slot
+      × SameButFor (body_of (packet_at shelf i)) (body_of (packet_at shelf-other i)) out-left out-other)

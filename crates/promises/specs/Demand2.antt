@@ -8,24 +8,24 @@ use Rattle.answers.specs.declared.Answer.TheVariants.{Done}
 use Rattle.vectors.specs.Vectors.{entry, Counts}
 use Rattle.vectors.specs.Bytes.{Bytes}
 use Rattle.window.specs.Window.{handed}
-use Rattle.packet.specs.Packet.{senderOf, kind_of, past_of, barrierOf}
-use Rattle.packet.specs.Reading.{headed, headerIn, message, read_of, body_of}
-use Rattle.packet.specs.Writing.{writeAnswer, writeOutput, at_start}
+use Rattle.packet.specs.Packet.{sender_of, kind_of, past_of, barrier_of}
+use Rattle.packet.specs.Reading.{headed, header_in, message, read_of, body_of}
+use Rattle.packet.specs.Writing.{write_answer, write_output, at_start}
 use Rattle.packet.specs.declared.Kind.{Kind}
 use Rattle.packet.specs.declared.Kind.TheVariants.{Ordinary, Causal}
 use Rattle.packet.specs.declared.Header.{Header}
 use Rattle.packet.specs.declared.Heading.{Heading}
 use Rattle.packet.specs.declared.ReadAnswer.TheVariants.{Packet}
-use Rattle.shelf.specs.Shelf.{slot_of, laid, freeSlot, lowestFree}
-use Rattle.seat.specs.State.{headerOf, windowOf, SoundState, Held}
-use Rattle.seat.specs.Stock.{packetAt}
+use Rattle.shelf.specs.Shelf.{slot_of, laid, free_slot, lowest_free}
+use Rattle.seat.specs.State.{header_of, window_of, SoundState, Held}
+use Rattle.seat.specs.Stock.{packet_at}
 use Rattle.seat.specs.Sending.{kind_of as kindWished, Sent}
 use Rattle.seat.specs.Arriving.{Arrived}
 use Rattle.seat.specs.Releasing.{Released}
 use Rattle.seat.specs.declared.Seat.{Seat}
 use Rattle.seat.specs.declared.Wish.{Wish}
 use Rattle.seat.specs.declared.Stepped.{Stepped}
-use Rattle.promises.specs.Demand1.{answerNumber, SameSession, Ready, Next, RefusalsChangeNothing}
+use Rattle.promises.specs.Demand1.{answer_number, SameSession, Ready, Next, RefusalsChangeNothing}
 
 -- ---- the paper's rules
 
@@ -42,18 +42,18 @@ Each n fact = (k : ℕ) → 1 ≤ k → k ≤ n → fact k
 -- Seat i of n sends a message of kind x, which carries past-m and barrier-m.
 pub record SendingRule (n i : ℕ) (x : Kind) (before : Controller) (past-m barrier-m : ℕ → ℕ) (after : Controller) : Type 0 where
   -- 1: if the kind is causal, barrier becomes past
-  pub line-1-causal : x ≡ Causal → Each n (λ k. barrier-m k ≡ before.past k)
-  pub line-1-ordinary : x ≡ Ordinary → Each n (λ k. barrier-m k ≡ before.barrier k)
+  pub line_1_causal : x ≡ Causal → Each n (λ k. barrier-m k ≡ before.past k)
+  pub line_1_ordinary : x ≡ Ordinary → Each n (λ k. barrier-m k ≡ before.barrier k)
   -- 2: past rises by one at i
-  pub line-2-own : after.past i ≡ before.past i + 1
-  pub line-2-others : Each n (λ k. (k ≡ i → ⊥) → after.past k ≡ before.past k)
+  pub line_2_own : after.past i ≡ before.past i + 1
+  pub line_2_others : Each n (λ k. (k ≡ i → ⊥) → after.past k ≡ before.past k)
   -- 3: the message goes out with past and barrier as they stand now
-  pub line-3 : Each n (λ k. past-m k ≡ after.past k)
+  pub line_3 : Each n (λ k. past-m k ≡ after.past k)
   -- 4: if the kind is causal, barrier becomes past again
-  pub line-4-causal : x ≡ Causal → Each n (λ k. after.barrier k ≡ after.past k)
-  pub line-4-ordinary : x ≡ Ordinary → Each n (λ k. after.barrier k ≡ barrier-m k)
+  pub line_4_causal : x ≡ Causal → Each n (λ k. after.barrier k ≡ after.past k)
+  pub line_4_ordinary : x ≡ Ordinary → Each n (λ k. after.barrier k ≡ barrier-m k)
   -- the sets are left
-  pub sets-stay : Each n (λ k. (t : ℕ) → after.del k t ↔ before.del k t)
+  pub sets_stay : Each n (λ k. (t : ℕ) → after.del k t ↔ before.del k t)
 
 -- 5: of every seat, all edits 1 up to barrier-m are in the set.
 abbrev pub Line5 : ℕ → Controller → (ℕ → ℕ) → Type 0
@@ -62,26 +62,26 @@ Line5 n before barrier-m = Each n (λ k. (t : ℕ) → 1 ≤ t → t ≤ barrier
 -- A message of kind x from seat j is handed over at a seat of n; line 6 is the hand-over itself.
 pub record DeliveryRule (n j : ℕ) (x : Kind) (past-m barrier-m : ℕ → ℕ) (before after : Controller) : Type 0 where
   -- 5: the message waited for this
-  pub line-5 : Line5 n before barrier-m
+  pub line_5 : Line5 n before barrier-m
   -- 7: its number joins the set of its sender
-  pub line-7 : Each n (λ k. (t : ℕ) → after.del k t ↔ (before.del k t ⊎ ((k ≡ j) × (t ≡ past-m j))))
+  pub line_7 : Each n (λ k. (t : ℕ) → after.del k t ↔ (before.del k t ⊎ ((k ≡ j) × (t ≡ past-m j))))
   -- 8: past is raised by the message's past
-  pub line-8 : Each n (λ k. after.past k ≡ max (before.past k) (past-m k))
+  pub line_8 : Each n (λ k. after.past k ≡ max (before.past k) (past-m k))
   -- 9: if causal, barrier is raised by the message's past
-  pub line-9 : x ≡ Causal → Each n (λ k. after.barrier k ≡ max (before.barrier k) (past-m k))
+  pub line_9 : x ≡ Causal → Each n (λ k. after.barrier k ≡ max (before.barrier k) (past-m k))
   -- 10: if ordinary, barrier is raised by the message's barrier
-  pub line-10 : x ≡ Ordinary → Each n (λ k. after.barrier k ≡ max (before.barrier k) (barrier-m k))
+  pub line_10 : x ≡ Ordinary → Each n (λ k. after.barrier k ≡ max (before.barrier k) (barrier-m k))
 
 -- ---- a seat as the paper's controller
 
 -- A vector by seat.
-abbrev pub vectorOf : List ℕ → ℕ → ℕ
-vectorOf v k = entry v (seatNo k)
+abbrev pub vector_of : List ℕ → ℕ → ℕ
+vector_of v k = entry v (seatNo k)
 
 -- past and barrier are the seat's; in del are the numbers at most run or marked in ahead.
-abbrev pub controllerOf : Seat → Controller
-controllerOf seat =
-    record { past = vectorOf seat.past; barrier = vectorOf seat.barrier; del = λ k t. handed (windowOf seat (seatNo k)) t ≡ true }
+abbrev pub controller_of : Seat → Controller
+controller_of seat =
+    record { past = vector_of seat.past; barrier = vector_of seat.barrier; del = λ k t. handed (window_of seat (seatNo k)) t ≡ true }
 
 -- ---- the steps are the rules
 
@@ -89,52 +89,52 @@ controllerOf seat =
 pub record SendDone (seat : Seat) (kind : Kind) (body out : List ℕ) (next : Seat) (after : List ℕ) : Type 0 where
   pub packet : List ℕ
   pub laid : after ≡ at_start packet out
-  pub says : (read_of packet).answer ≡ Packet (headed kind (headerOf seat))
+  pub says : (read_of packet).answer ≡ Packet (headed kind (header_of seat))
   pub carries : body_of packet ≡ body
-  pub rule : SendingRule seat.n seat.own.0 kind (controllerOf seat) (vectorOf (read_of packet).past) (vectorOf (read_of packet).barrier) (controllerOf next)
+  pub rule : SendingRule seat.n seat.own.0 kind (controller_of seat) (vector_of (read_of packet).past) (vector_of (read_of packet).barrier) (controller_of next)
 
 -- A packet is handed over by the rule; n and own number stay.
 pub record HandOverDone (seat : Seat) (packet : List ℕ) (next : Seat) : Type 0 where
-  pub rule : DeliveryRule seat.n (senderOf packet).0 (kind_of packet) (vectorOf (past_of packet)) (vectorOf (barrierOf packet)) (controllerOf seat) (controllerOf next)
-  pub seats-stay : next.n ≡ seat.n
-  pub own-stays : next.own ≡ seat.own
+  pub rule : DeliveryRule seat.n (sender_of packet).0 (kind_of packet) (vector_of (past_of packet)) (vector_of (barrier_of packet)) (controller_of seat) (controller_of next)
+  pub seats_stay : next.n ≡ seat.n
+  pub own_stays : next.own ≡ seat.own
 
 pub record Demand2 : Type 0 where
   -- at a sound seat, the test of a packet of its session against run is line 5
-  pub ready-is-line-5 : (seat : Seat) (packet : List ℕ) → SoundState seat → SameSession seat packet
-      → Ready seat packet ↔ Line5 seat.n (controllerOf seat) (vectorOf (barrierOf packet))
+  pub ready_is_line_5 : (seat : Seat) (packet : List ℕ) → SoundState seat → SameSession seat packet
+      → Ready seat packet ↔ Line5 seat.n (controller_of seat) (vector_of (barrier_of packet))
   -- a send answered 0 is lines 1 to 4
-  pub send-is-the-rule : (seat : Seat) (wish : Wish) (body out : List ℕ) (stepped : Stepped) (after : List ℕ) → Held seat
-      → Sent seat wish body out stepped after → answerNumber stepped.answer ≡ 0 → SendDone seat (kindWished wish) body out stepped.seat after
+  pub send_is_the_rule : (seat : Seat) (wish : Wish) (body out : List ℕ) (stepped : Stepped) (after : List ℕ) → Held seat
+      → Sent seat wish body out stepped after → answer_number stepped.answer ≡ 0 → SendDone seat (kindWished wish) body out stepped.seat after
   -- an arrival answered 0 is lines 5 to 10, and leaves the shelf
-  pub arrival-is-the-rule : (seat : Seat) (packet shelf : List ℕ) (stepped : Stepped) (after : List ℕ) → Held seat
-      → Arrived seat packet shelf stepped after → answerNumber stepped.answer ≡ 0 → HandOverDone seat packet stepped.seat × (after ≡ shelf)
+  pub arrival_is_the_rule : (seat : Seat) (packet shelf : List ℕ) (stepped : Stepped) (after : List ℕ) → Held seat
+      → Arrived seat packet shelf stepped after → answer_number stepped.answer ≡ 0 → HandOverDone seat packet stepped.seat × (after ≡ shelf)
   -- an arrival answered 1 does none of them: line 5 does not hold yet, the state stays, and the packet is laid in the
   -- lowest free slot
-  pub shelving-hands-nothing-over : (seat : Seat) (packet shelf : List ℕ) (stepped : Stepped) (after : List ℕ)
-      → Arrived seat packet shelf stepped after → answerNumber stepped.answer ≡ 1
+  pub shelving_hands_nothing_over : (seat : Seat) (packet shelf : List ℕ) (stepped : Stepped) (after : List ℕ)
+      → Arrived seat packet shelf stepped after → answer_number stepped.answer ≡ 1
       → (stepped.seat ≡ seat)
-      × (Line5 seat.n (controllerOf seat) (vectorOf (barrierOf packet)) → ⊥)
-      × (after ≡ laid shelf (lowestFree shelf) (slot_of packet))
+      × (Line5 seat.n (controller_of seat) (vector_of (barrier_of packet)) → ⊥)
+      × (after ≡ laid shelf (lowest_free shelf) (slot_of packet))
   -- a release answered 0 is lines 5 to 10 for the next packet on the shelf: its body goes to the start of the output, and
   -- its slot is zeroed
-  pub release-is-the-rule : (seat : Seat) (shelf out : List ℕ) (stepped : Stepped) (shelf-left out-left : List ℕ) → Held seat
-      → Released seat shelf out stepped shelf-left out-left → answerNumber stepped.answer ≡ 0
-      → (i : ℕ) × Next seat shelf i × HandOverDone seat (packetAt shelf i) stepped.seat × (out-left ≡ at_start (body_of (packetAt shelf i)) out)
-      × (shelf-left ≡ laid shelf i freeSlot)
+  pub release_is_the_rule : (seat : Seat) (shelf out : List ℕ) (stepped : Stepped) (shelf-left out-left : List ℕ) → Held seat
+      → Released seat shelf out stepped shelf-left out-left → answer_number stepped.answer ≡ 0
+      → (i : ℕ) × Next seat shelf i × HandOverDone seat (packet_at shelf i) stepped.seat × (out-left ≡ at_start (body_of (packet_at shelf i)) out)
+      × (shelf-left ≡ laid shelf i free_slot)
   -- a release answered 2 changes nothing
-  pub idle-release-does-nothing : (seat : Seat) (shelf out : List ℕ) (stepped : Stepped) (shelf-left out-left : List ℕ)
-      → Released seat shelf out stepped shelf-left out-left → answerNumber stepped.answer ≡ 2
+  pub idle_release_does_nothing : (seat : Seat) (shelf out : List ℕ) (stepped : Stepped) (shelf-left out-left : List ℕ)
+      → Released seat shelf out stepped shelf-left out-left → answer_number stepped.answer ≡ 2
       → (stepped.seat ≡ seat) × (shelf-left ≡ shelf) × (out-left ≡ out)
   -- and neither does a refusal
-  pub refusals-do-nothing : RefusalsChangeNothing
+  pub refusals_do_nothing : RefusalsChangeNothing
   -- what is written reads back as the same message
-  pub written-reads-back : (kind : Kind) (header : Header) (past barrier body out : List ℕ) (edit : Edit) → Counts past → Counts barrier
-      → writeAnswer kind header past barrier body out ≡ Done edit
-      → (read_of (take edit.length (writeOutput kind header past barrier body out)) ≡ message kind header past barrier)
-      × (body_of (take edit.length (writeOutput kind header past barrier body out)) ≡ body)
+  pub written_reads_back : (kind : Kind) (header : Header) (past barrier body out : List ℕ) (edit : Edit) → Counts past → Counts barrier
+      → write_answer kind header past barrier body out ≡ Done edit
+      → (read_of (take edit.length (write_output kind header past barrier body out)) ≡ message kind header past barrier)
+      × (body_of (take edit.length (write_output kind header past barrier body out)) ≡ body)
   -- what is read and written again is the same bytes
-  pub read-writes-again : (packet out : List ℕ) (heading : Heading) → Bytes packet → length packet ≤ length out → (read_of packet).answer ≡ Packet heading
-      → (writeAnswer heading.kind (headerIn heading) (read_of packet).past (read_of packet).barrier (body_of packet) out
+  pub read_writes_again : (packet out : List ℕ) (heading : Heading) → Bytes packet → length packet ≤ length out → (read_of packet).answer ≡ Packet heading
+      → (write_answer heading.kind (header_in heading) (read_of packet).past (read_of packet).barrier (body_of packet) out
       ≡ Done (record { sender = heading.sender; number = editNo (entry (read_of packet).past heading.sender); length = length packet }))
-      × (writeOutput heading.kind (headerIn heading) (read_of packet).past (read_of packet).barrier (body_of packet) out ≡ at_start packet out)
+      × (write_output heading.kind (header_in heading) (read_of packet).past (read_of packet).barrier (body_of packet) out ≡ at_start packet out)

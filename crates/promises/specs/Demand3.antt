@@ -15,7 +15,7 @@ use Rattle.seat.specs.declared.Stepped.{Stepped}
 use Rattle.seat.specs.declared.Wish.{Wish}
 use Rattle.session.specs.Events.{Kind, ordinary, causal, arrival, release, Edit, sent, handed, shelved, idle, Trace, ◌∈◌, Kept}
 use Rattle.session.specs.Protocol.{Seated}
-use Rattle.promises.specs.Demand1.{answerNumber}
+use Rattle.promises.specs.Demand1.{answer_number}
 
 -- A seat's latest state and shelf.
 pub record Place : Type 0 where
@@ -31,7 +31,7 @@ pub record FreshlyOpened (n j : ℕ) (place : Place) : Type 0 where
   pub lent : List ℕ
   pub stepped : Stepped
   pub contract : OpenedAs n (seatNo j) lent stepped place.shelf
-  pub answered-0 : answerNumber stepped.answer ≡ 0
+  pub answered_0 : answer_number stepped.answer ≡ 0
   pub state : place.seat ≡ stepped.seat
 
 -- The places, once seat j has gone on to a new one. The others stay.
@@ -39,12 +39,12 @@ abbrev pub moved_to : ℕ → Place → (ℕ → Place) → ℕ → Place
 moved_to j place places i = cond (eqb i j) place (places i)
 
 -- The kind that is sent for a wish: usual is ordinary.
-abbrev pub kindAs : packet.Kind → Kind
-kindAs Ordinary = ordinary
-kindAs Causal = causal
+abbrev pub kind_as : packet.Kind → Kind
+kind_as Ordinary = ordinary
+kind_as Causal = causal
 
-abbrev pub kindSent : Wish → Kind
-kindSent wish = kindAs (kind_of wish)
+abbrev pub kind_sent : Wish → Kind
+kind_sent wish = kind_as (kind_of wish)
 
 -- A packet that was sent: the edit that its send reported, and the packet's bytes.
 pub record Letter : Type 0 where
@@ -52,31 +52,31 @@ pub record Letter : Type 0 where
   pub bytes : List ℕ
 
 -- The packet stands at the start of the output, as long as the answer reports.
-abbrev pub letterIn : Answer → List ℕ → Letter
-letterIn answer output = record { edit = reported answer; bytes = take (report answer).edit.length output }
+abbrev pub letter_in : Answer → List ℕ → Letter
+letter_in answer output = record { edit = reported answer; bytes = take (report answer).edit.length output }
 
 -- The packets sent, after a send answered by this number: 0, one more.
-abbrev pub lettersAfterSend : ℕ → Letter → List Letter → List Letter
-lettersAfterSend zero letter letters = letter ∷ letters
-lettersAfterSend (suc _) letter letters = letters
+abbrev pub letters_after_send : ℕ → Letter → List Letter → List Letter
+letters_after_send zero letter letters = letter ∷ letters
+letters_after_send (suc _) letter letters = letters
 
 -- The events, after a send answered by this number: 0, the edit was sent. Any other leaves none.
-abbrev pub traceAfterSend : ℕ → Edit → Kind → Trace → Trace
-traceAfterSend zero edit kind trace = sent edit kind ∷ trace
-traceAfterSend (suc _) edit kind trace = trace
+abbrev pub trace_after_send : ℕ → Edit → Kind → Trace → Trace
+trace_after_send zero edit kind trace = sent edit kind ∷ trace
+trace_after_send (suc _) edit kind trace = trace
 
 -- After an arrival: 0, the edit that the answer reports was handed over; 1, the edit that arrived was shelved.
-abbrev pub traceAfterArrival : ℕ → ℕ → Edit → Edit → Trace → Trace
-traceAfterArrival zero j edit arrived trace = handed arrival j edit ∷ trace
-traceAfterArrival (suc zero) j edit arrived trace = shelved j arrived ∷ trace
-traceAfterArrival (suc (suc _)) j edit arrived trace = trace
+abbrev pub trace_after_arrival : ℕ → ℕ → Edit → Edit → Trace → Trace
+trace_after_arrival zero j edit arrived trace = handed arrival j edit ∷ trace
+trace_after_arrival (suc zero) j edit arrived trace = shelved j arrived ∷ trace
+trace_after_arrival (suc (suc _)) j edit arrived trace = trace
 
 -- After a release: 0, the edit that the answer reports was handed over; 2, nothing on the shelf is ready.
-abbrev pub traceAfterRelease : ℕ → ℕ → Edit → Trace → Trace
-traceAfterRelease zero j edit trace = handed release j edit ∷ trace
-traceAfterRelease (suc zero) j edit trace = trace
-traceAfterRelease (suc (suc zero)) j edit trace = idle j ∷ trace
-traceAfterRelease (suc (suc (suc _))) j edit trace = trace
+abbrev pub trace_after_release : ℕ → ℕ → Edit → Trace → Trace
+trace_after_release zero j edit trace = handed release j edit ∷ trace
+trace_after_release (suc zero) j edit trace = trace
+trace_after_release (suc (suc zero)) j edit trace = idle j ∷ trace
+trace_after_release (suc (suc (suc _))) j edit trace = trace
 
 -- A session of freshly opened seats, numbered 1 to n once each: their latest states and shelves, the packets sent so
 -- far, and the events so far. Each step sends, takes an arrival or releases, with its seat's latest state and shelf.
@@ -87,18 +87,18 @@ pub data Session (n : ℕ) : (ℕ → Place) → List Letter → Trace → Type 
       → Session n places letters trace → Seated n j
       → Sent (places j).seat wish body out stepped output
       → Session n (moved_to j (record { seat = stepped.seat; shelf = (places j).shelf }) places)
-      (lettersAfterSend (answerNumber stepped.answer) (letterIn stepped.answer output) letters)
-      (traceAfterSend (answerNumber stepped.answer) (reported stepped.answer) (kindSent wish) trace)
+      (letters_after_send (answer_number stepped.answer) (letter_in stepped.answer output) letters)
+      (trace_after_send (answer_number stepped.answer) (reported stepped.answer) (kind_sent wish) trace)
   arriving : {places : ℕ → Place} {letters : List Letter} {trace : Trace} (j : ℕ) (letter : Letter) (shelf : List ℕ) (stepped : Stepped)
       → Session n places letters trace → Seated n j → letter ∈ letters
       → Arrived (places j).seat letter.bytes (places j).shelf stepped shelf
       → Session n (moved_to j (record { seat = stepped.seat; shelf = shelf }) places) letters
-      (traceAfterArrival (answerNumber stepped.answer) j (reported stepped.answer) letter.edit trace)
+      (trace_after_arrival (answer_number stepped.answer) j (reported stepped.answer) letter.edit trace)
   releasing : {places : ℕ → Place} {letters : List Letter} {trace : Trace} (j : ℕ) (out shelf output : List ℕ) (stepped : Stepped)
       → Session n places letters trace → Seated n j
       → Released (places j).seat (places j).shelf out stepped shelf output
       → Session n (moved_to j (record { seat = stepped.seat; shelf = shelf }) places) letters
-      (traceAfterRelease (answerNumber stepped.answer) j (reported stepped.answer) trace)
+      (trace_after_release (answer_number stepped.answer) j (reported stepped.answer) trace)
 
 -- Demand 3: in every session a seat hands over each edit at most once, after all it needs; and whenever it is told that
 -- nothing on its shelf is ready, it has handed over exactly the accepted edits whose every needed edit it has accepted.

@@ -7,7 +7,7 @@ use Rattle.seat.specs.declared.Wish.TheVariants.{Ordinary, Causal}
 use Rattle.session.specs.Events.{ordinary, causal, arrival, release, sent, handed, shelved, idle, Trace}
 use Rattle.session.specs.Protocol.{Seated}
 use Rattle.promises.specs.Demand3.{Place, reported, Letter, Session, opening, sending, arriving, releasing}
-use Rattle.promises.specs.Demand1.{answerNumber}
+use Rattle.promises.specs.Demand1.{answer_number}
 
 -- `s SEAT o|c`, `a SEAT SENDER NUMBER` and `r SEAT`.
 pub data Step : Type 0 where
@@ -24,36 +24,36 @@ steps_of (releasing j out shelf output stepped session seated meets) = steps_of 
 
 -- What is printed of an answer: its number, sender and sequence number.
 abbrev pub printed : Answer → ℕ × ℕ × ℕ
-printed answer = (answerNumber answer, (reported answer).by, (reported answer).number)
+printed answer = (answer_number answer, (reported answer).by, (reported answer).number)
 
 -- What a session's steps were answered, oldest first.
-unfoldable pub answersOf : {n : ℕ} {places : ℕ → Place} {letters : List Letter} {trace : Trace} → Session n places letters trace → List (ℕ × ℕ × ℕ)
-answersOf (opening fresh) = []
-answersOf (sending j wish body out output stepped session seated meets) = answersOf session ++ (printed stepped.answer ∷ [])
-answersOf (arriving j letter shelf stepped session seated mail meets) = answersOf session ++ (printed stepped.answer ∷ [])
-answersOf (releasing j out shelf output stepped session seated meets) = answersOf session ++ (printed stepped.answer ∷ [])
+unfoldable pub answers_of : {n : ℕ} {places : ℕ → Place} {letters : List Letter} {trace : Trace} → Session n places letters trace → List (ℕ × ℕ × ℕ)
+answers_of (opening fresh) = []
+answers_of (sending j wish body out output stepped session seated meets) = answers_of session ++ (printed stepped.answer ∷ [])
+answers_of (arriving j letter shelf stepped session seated mail meets) = answers_of session ++ (printed stepped.answer ∷ [])
+answers_of (releasing j out shelf output stepped session seated meets) = answers_of session ++ (printed stepped.answer ∷ [])
 
 -- A session of n seats, with so many slots each, walks these steps, prints these answers and leaves these events.
 pub record Walks (n slotsEach : ℕ) (steps : List Step) (lines : List (ℕ × ℕ × ℕ)) (trace : Trace) : Type 0 where
   pub places : ℕ → Place
   pub letters : List Letter
   pub session : Session n places letters trace
-  pub slots-are : (j : ℕ) → Seated n j → slots (places j).shelf ≡ slotsEach
-  pub steps-are : steps_of session ≡ steps
-  pub answers-are : answersOf session ≡ lines
+  pub slots_are : (j : ℕ) → Seated n j → slots (places j).shelf ≡ slotsEach
+  pub steps_are : steps_of session ≡ steps
+  pub answers_are : answers_of session ≡ lines
 
 -- Document 01's listing.
-abbrev pub listedSteps : List Step
-listedSteps =
+abbrev pub listed_steps : List Step
+listed_steps =
     s 1 Ordinary ∷ s 1 Causal ∷ a 2 1 2 ∷ a 2 1 1 ∷ r 2 ∷ s 2 Ordinary ∷ a 3 2 1 ∷ a 3 1 2 ∷ a 3 1 2 ∷ a 3 1 1 ∷ r 3 ∷ r 3 ∷ r 3 ∷ []
 
-abbrev pub listedAnswers : List (ℕ × ℕ × ℕ)
-listedAnswers =
+abbrev pub listed_answers : List (ℕ × ℕ × ℕ)
+listed_answers =
     (0, 1, 1) ∷ (0, 1, 2) ∷ (1, 0, 0) ∷ (0, 1, 1) ∷ (0, 1, 2) ∷ (0, 2, 1) ∷ (1, 0, 0) ∷ (1, 0, 0) ∷ (17, 0, 0) ∷ (0, 1, 1) ∷ (0, 1, 2) ∷ (0, 2, 1) ∷ (2, 0, 0) ∷ []
 
 -- The events that it leaves, newest first. The ninth step is refused, and leaves none.
-abbrev pub listedEvents : Trace
-listedEvents =
+abbrev pub listed_events : Trace
+listed_events =
     idle 3
     ∷ handed release 3 (record { by = 2; number = 1 })
     ∷ handed release 3 (record { by = 1; number = 2 })

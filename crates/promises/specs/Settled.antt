@@ -19,7 +19,7 @@ use Rattle.seat.specs.declared.Stepped.{Stepped}
 -- Two results of one call on the same input.
 pub record Settled : Type 0 where
   pub reading : (packet : List ℕ) (one other : Reading) → one ≡ read_of packet → other ≡ read_of packet → one ≡ other
-  pub lending-body : (packet one other : List ℕ) → one ≡ body_of packet → other ≡ body_of packet → one ≡ other
+  pub lending_body : (packet one other : List ℕ) → one ≡ body_of packet → other ≡ body_of packet → one ≡ other
   pub writing : (kind : Kind) (header : Header) (past barrier body out : List ℕ) (one other : Answer) (after after-other : List ℕ)
       → Written kind header past barrier body out one after → Written kind header past barrier body out other after-other → (one ≡ other) × (after ≡ after-other)
   pub opening : (n : ℕ) (own : SeatNo) (shelf : List ℕ) (one other : Stepped) (after after-other : List ℕ)

@@ -13,38 +13,38 @@ use Rattle.answers.specs.declared.Refusal.{Refusal}
 use Rattle.answers.specs.declared.Refusal.TheVariants.{NotSound, NotWellFormed, ShelfFull, BarrierAbovePast}
 use Rattle.answers.specs.declared.Answer.{Answer}
 use Rattle.answers.specs.declared.Answer.TheVariants.{Opened, Done, Shelved, NothingReady, Refused}
-use Rattle.answers.proofs.InOrder.{NoRefusal, done-is-no-refusal, shelved-is-no-refusal, idle-is-no-refusal, opened-is-no-refusal, passed}
+use Rattle.answers.proofs.InOrder.{NoRefusal, done_is_no_refusal, shelved_is_no_refusal, idle_is_no_refusal, opened_is_no_refusal, passed}
 use Rattle.vectors.proofs.Every.{and_both}
-use Rattle.packet.specs.Packet.{senderOf, past_of, barrierOf, firstBadPoint}
-use Rattle.shelf.specs.Shelf.{slots, isFree, lowestFree}
-use Rattle.shelf.proofs.Lowest.{lowest-is-lowest}
-use Rattle.seat.specs.State.{soundState}
-use Rattle.seat.specs.Stock.{number_of, isHanded, onShelf, soundShelf, Passing}
-use Rattle.seat.specs.HandingOver.{ready, barrierAbovePast}
-use Rattle.seat.specs.Arriving.{headingOf, repeats, arriveRefusals, editHanded, readyAnswer, waitAnswer, admittedAnswer, arriveAnswer}
+use Rattle.packet.specs.Packet.{sender_of, past_of, barrier_of, first_bad_point}
+use Rattle.shelf.specs.Shelf.{slots, is_free, lowest_free}
+use Rattle.shelf.proofs.Lowest.{lowest_is_lowest}
+use Rattle.seat.specs.State.{sound_state}
+use Rattle.seat.specs.Stock.{number_of, is_handed, on_shelf, sound_shelf, Passing}
+use Rattle.seat.specs.HandingOver.{ready, barrier_above_past}
+use Rattle.seat.specs.Arriving.{heading_of, repeats, arrive_refusals, edit_handed, ready_answer, wait_answer, admitted_answer, arrive_answer}
 use Rattle.seat.specs.declared.Seat.{Seat}
-use Rattle.seat.proofs.Admitting.{admission-passed, done-tells, shelved-tells}
+use Rattle.seat.proofs.Admitting.{admission_passed, done_tells, shelved_tells}
 
 -- A packet that passed refusals 10 to 18.
 pub record Admitted (seat : Seat) (shelf packet : List ℕ) : Type 0 where
-  pub sound : soundState seat ≡ true
-  pub shelf-sound : soundShelf seat shelf ≡ true
+  pub sound : sound_state seat ≡ true
+  pub shelf_sound : sound_shelf seat shelf ≡ true
   pub passing : Passing seat packet
-  pub not-on-shelf : onShelf shelf (senderOf packet) (number_of packet) ≡ false
+  pub not_on_shelf : on_shelf shelf (sender_of packet) (number_of packet) ≡ false
 
 -- It is handed over.
 pub record ArrivalDone (seat : Seat) (shelf packet : List ℕ) (edit : Edit) : Type 0 where
   pub admitted : Admitted seat shelf packet
-  pub is-ready : ready seat (barrierOf packet) ≡ true
-  pub barrier-stays : barrierAbovePast seat (headingOf packet) (past_of packet) (barrierOf packet) ≡ false
-  pub edit-is : editHanded packet ≡ edit
+  pub is_ready : ready seat (barrier_of packet) ≡ true
+  pub barrier_stays : barrier_above_past seat (heading_of packet) (past_of packet) (barrier_of packet) ≡ false
+  pub edit_is : edit_handed packet ≡ edit
 
 -- It is put on the shelf.
 pub record ArrivalShelved (seat : Seat) (shelf packet : List ℕ) : Type 0 where
   pub admitted : Admitted seat shelf packet
-  pub waits : ready seat (barrierOf packet) ≡ false
-  pub there : lowestFree shelf < slots shelf
-  pub free : isFree shelf (lowestFree shelf) ≡ true
+  pub waits : ready seat (barrier_of packet) ≡ false
+  pub there : lowest_free shelf < slots shelf
+  pub free : is_free shelf (lowest_free shelf) ≡ true
 
 -- What each answer tells. An arrival gives no others.
 pub data ArrivalTold (seat : Seat) (shelf packet : List ℕ) : Answer → Type 0 where
@@ -52,66 +52,66 @@ pub data ArrivalTold (seat : Seat) (shelf packet : List ℕ) : Answer → Type 0
   shelved : ArrivalShelved seat shelf packet → ArrivalTold seat shelf packet Shelved
   refused : (refusal : Refusal) → ArrivalTold seat shelf packet (Refused refusal)
 
-or-neither : (a b : Bool) → (a || b) ≡ false → (a ≡ false) × (b ≡ false)
-or-neither true b e = absurd (true≢false e)
-or-neither false b e = (refl, e)
+or_neither : (a b : Bool) → (a || b) ≡ false → (a ≡ false) × (b ≡ false)
+or_neither true b e = absurd (true≢false e)
+or_neither false b e = (refl, e)
 
-done-or-shelved : (is-ready above full : Bool) (edit : Edit) (answer : Answer)
-    → cond is-ready (first_of ((BarrierAbovePast, above) ∷ []) (Done edit)) (first_of ((ShelfFull, full) ∷ []) Shelved) ≡ answer → NoRefusal answer
+done_or_shelved : (is_ready above full : Bool) (edit : Edit) (answer : Answer)
+    → cond is_ready (first_of ((BarrierAbovePast, above) ∷ []) (Done edit)) (first_of ((ShelfFull, full) ∷ []) Shelved) ≡ answer → NoRefusal answer
     → (Done edit ≡ answer → ⊥) → (Shelved ≡ answer → ⊥) → ⊥
 unfolding first_of
-done-or-shelved true true full edit answer e none not_done not-shelved = none BarrierAbovePast e
-done-or-shelved true false full edit answer e none not_done not-shelved = not_done e
-done-or-shelved false above true edit answer e none not_done not-shelved = none ShelfFull e
-done-or-shelved false above false edit answer e none not_done not-shelved = not-shelved e
+done_or_shelved true true full edit answer e none not_done not_shelved = none BarrierAbovePast e
+done_or_shelved true false full edit answer e none not_done not_shelved = not_done e
+done_or_shelved false above true edit answer e none not_done not_shelved = none ShelfFull e
+done_or_shelved false above false edit answer e none not_done not_shelved = not_shelved e
 
 module _ (seat : Seat) (shelf packet : List ℕ) where
   abbrev judged : Answer
-  judged = admittedAnswer seat shelf (headingOf packet) (past_of packet) (barrierOf packet) (editHanded packet)
+  judged = admitted_answer seat shelf (heading_of packet) (past_of packet) (barrier_of packet) (edit_handed packet)
 
   -- an answer that is no refusal comes from a packet that passed
-  passed-all : (answer : Answer) → arriveAnswer seat shelf packet ≡ answer → NoRefusal answer → Admitted seat shelf packet × (judged ≡ answer)
-  unfolding arriveAnswer arriveRefusals
-  passed-all answer e none =
+  passed_all : (answer : Answer) → arrive_answer seat shelf packet ≡ answer → NoRefusal answer → Admitted seat shelf packet × (judged ≡ answer)
+  unfolding arrive_answer arrive_refusals
+  passed_all answer e none =
       let p10 = passed NotSound _ judged _ answer e (none NotSound) in
       let p14 = passed NotWellFormed _ judged _ answer p10.1 (none NotWellFormed) in
-      let rest = admission-passed seat (headingOf packet) (past_of packet) (repeats seat shelf packet) judged answer p14.1 none in
-      let sound = and_both (soundState seat) (soundShelf seat shelf) (not-false _ p10.0) in
-      let new = or-neither (isHanded seat (senderOf packet) (number_of packet)) (onShelf shelf (senderOf packet) (number_of packet)) rest.0.new in (
+      let rest = admission_passed seat (heading_of packet) (past_of packet) (repeats seat shelf packet) judged answer p14.1 none in
+      let sound = and_both (sound_state seat) (sound_shelf seat shelf) (not-false _ p10.0) in
+      let new = or_neither (is_handed seat (sender_of packet) (number_of packet)) (on_shelf shelf (sender_of packet) (number_of packet)) rest.0.new in (
         record {
           sound = sound.0;
-          shelf-sound = sound.1;
+          shelf_sound = sound.1;
           passing = record {
-            well-formed = eqb-true (firstBadPoint packet) 0 (not-false _ p14.0);
-            same-session = rest.0.same;
-            within-own-count = ltb-false _ _ rest.0.own;
-            not-handed = new.0;
+            is_well_formed = eqb-true (first_bad_point packet) 0 (not-false _ p14.0);
+            same_session = rest.0.same;
+            within_own_count = ltb-false _ _ rest.0.own;
+            not_handed = new.0;
             near = ltb-false _ _ rest.0.near;
           };
-          not-on-shelf = new.1;
+          not_on_shelf = new.1;
         },
         rest.1,
       )
 
-  never_other : (answer : Answer) → arriveAnswer seat shelf packet ≡ answer → NoRefusal answer → ((edit : Edit) → Done edit ≡ answer → ⊥) → (Shelved ≡ answer → ⊥) → ⊥
-  unfolding admittedAnswer readyAnswer waitAnswer
-  never_other answer e none not_done not-shelved =
-      done-or-shelved (ready seat (barrierOf packet)) (barrierAbovePast seat (headingOf packet) (past_of packet) (barrierOf packet)) (eqb (lowestFree shelf) (slots shelf))
-      (editHanded packet) answer (passed-all answer e none).1 none (not_done (editHanded packet)) not-shelved
+  never_other : (answer : Answer) → arrive_answer seat shelf packet ≡ answer → NoRefusal answer → ((edit : Edit) → Done edit ≡ answer → ⊥) → (Shelved ≡ answer → ⊥) → ⊥
+  unfolding admitted_answer ready_answer wait_answer
+  never_other answer e none not_done not_shelved =
+      done_or_shelved (ready seat (barrier_of packet)) (barrier_above_past seat (heading_of packet) (past_of packet) (barrier_of packet)) (eqb (lowest_free shelf) (slots shelf))
+      (edit_handed packet) answer (passed_all answer e none).1 none (not_done (edit_handed packet)) not_shelved
 
-  pub arrival-tells : (answer : Answer) → arriveAnswer seat shelf packet ≡ answer → ArrivalTold seat shelf packet answer
-  arrival-tells (Done edit) e =
-      let so = passed-all (Done edit) e (done-is-no-refusal edit) in
-      let told = done-tells seat shelf (headingOf packet) (past_of packet) (barrierOf packet) (editHanded packet) edit so.1 in
-      done edit (record { admitted = so.0; is-ready = told.0; barrier-stays = told.1; edit-is = told.2 })
-  arrival-tells Shelved e =
-      let so = passed-all Shelved e shelved-is-no-refusal in
-      let told = shelved-tells seat shelf (headingOf packet) (past_of packet) (barrierOf packet) (editHanded packet) so.1 in
-      let first = lowest-is-lowest (slots shelf) (isFree shelf) in
+  pub arrival_tells : (answer : Answer) → arrive_answer seat shelf packet ≡ answer → ArrivalTold seat shelf packet answer
+  arrival_tells (Done edit) e =
+      let so = passed_all (Done edit) e (done_is_no_refusal edit) in
+      let told = done_tells seat shelf (heading_of packet) (past_of packet) (barrier_of packet) (edit_handed packet) edit so.1 in
+      done edit (record { admitted = so.0; is_ready = told.0; barrier_stays = told.1; edit_is = told.2 })
+  arrival_tells Shelved e =
+      let so = passed_all Shelved e shelved_is_no_refusal in
+      let told = shelved_tells seat shelf (heading_of packet) (past_of packet) (barrier_of packet) (edit_handed packet) so.1 in
+      let first = lowest_is_lowest (slots shelf) (is_free shelf) in
       let there = lt_of_le-ne first.most told.1 in
       shelved (record { admitted = so.0; waits = told.0; there = there; free = first.holds there })
-  arrival-tells (Refused refusal) e = refused refusal
-  arrival-tells Opened e =
-      absurd (never_other Opened e opened-is-no-refusal (λ edit c. let z : ◌≡◌ {A = ℕ} 0 1 = cc in omega arith) (λ c. let z : ◌≡◌ {A = ℕ} 0 1 = cc in omega arith))
-  arrival-tells NothingReady e =
-      absurd (never_other NothingReady e idle-is-no-refusal (λ edit c. let z : ◌≡◌ {A = ℕ} 0 1 = cc in omega arith) (λ c. let z : ◌≡◌ {A = ℕ} 0 1 = cc in omega arith))
+  arrival_tells (Refused refusal) e = refused refusal
+  arrival_tells Opened e =
+      absurd (never_other Opened e opened_is_no_refusal (λ edit c. let z : ◌≡◌ {A = ℕ} 0 1 = cc in omega arith) (λ c. let z : ◌≡◌ {A = ℕ} 0 1 = cc in omega arith))
+  arrival_tells NothingReady e =
+      absurd (never_other NothingReady e idle_is_no_refusal (λ edit c. let z : ◌≡◌ {A = ℕ} 0 1 = cc in omega arith) (λ c. let z : ◌≡◌ {A = ℕ} 0 1 = cc in omega arith))

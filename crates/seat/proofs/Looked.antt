@@ -9,114 +9,114 @@ use lib.ListN.{length}
 use Rattle.answers.specs.declared.SeatNo.{SeatNo}
 use Rattle.vectors.specs.Vectors.{entry}
 use Rattle.window.specs.Window.{handed}
-use Rattle.packet.specs.Packet.{senderOf}
+use Rattle.packet.specs.Packet.{sender_of}
 use Rattle.packet.specs.Reading.{read_of}
 use Rattle.packet.specs.declared.Heading.{Heading}
 use Rattle.packet.specs.declared.ReadAnswer.{ReadAnswer}
 use Rattle.packet.specs.declared.ReadAnswer.TheVariants.{Refused, Packet}
 use Rattle.packet.specs.declared.Reading.{Reading}
 use Rattle.packet.proofs.Told.{Told, told}
-use Rattle.shelf.specs.Shelf.{slots, isFree}
-use Rattle.seat.specs.Stock.{packetAt, number_of, otherSession, aboveOwnCount, isHanded, tooFarAhead, passesAs, passes, isEdit, onSlots, soundSlots}
+use Rattle.shelf.specs.Shelf.{slots, is_free}
+use Rattle.seat.specs.Stock.{packet_at, number_of, other_session, above_own_count, is_handed, too_far_ahead, passes_as, passes, is_edit, on_slots, sound_slots}
 use Rattle.seat.specs.HandingOver.{ready}
-use Rattle.seat.specs.Survey.{windowWith, passesBeside, key_of, key_at, noKey, sooner, Counted, FirstReady, Looked, Surveyed}
+use Rattle.seat.specs.Survey.{window_with, passes_beside, key_of, key_at, no_key, sooner, Counted, FirstReady, Looked, Surveyed}
 use Rattle.seat.specs.declared.Seat.{Seat}
 use Rattle.seat.specs.declared.stock.Stock.{Stock}
-use Rattle.seat.proofs.SlotBySlot.{nothing-on-no-slots, free-slot-adds-no-edit, used-slot-adds-its-edit, no-slots-are-sound, free-slot-is-sound, used-slot-is-sound, more-stay-unsound}
-use Rattle.seat.proofs.Beside.{beside, passed-is-in-window}
-use Rattle.seat.proofs.Marks.{marking-adds-the-edit}
-use Rattle.seat.proofs.FirstReady.{none-ready-on-no-slots, slot-not-ready, used-slot-compared, free-slot-is-not-ready, first-is-chosen}
+use Rattle.seat.proofs.SlotBySlot.{nothing_on_no_slots, free_slot_adds_no_edit, used_slot_adds_its_edit, no_slots_are_sound, free_slot_is_sound, used_slot_is_sound, more_stay_unsound}
+use Rattle.seat.proofs.Beside.{beside, passed_is_in_window}
+use Rattle.seat.proofs.Marks.{marking_adds_the_edit}
+use Rattle.seat.proofs.FirstReady.{none_ready_on_no_slots, slot_not_ready, used_slot_compared, free_slot_is_not_ready, first_is_chosen}
 
 -- ---- the start, the end, and a slot that is not sound
 
 module _ (choosing : Bool) (seat : Seat) (shelf : List ℕ) where
-  pub looked-at-none : (stock : Stock) → stock.sound ≡ true → stock.marks ≡ seat.ahead → stock.first ≡ slots shelf → stock.key ≡ noKey → Looked choosing 0 seat shelf stock
-  looked-at-none stock sound marks first key =
+  pub looked_at_none : (stock : Stock) → stock.sound ≡ true → stock.marks ≡ seat.ahead → stock.first ≡ slots shelf → stock.key ≡ no_key → Looked choosing 0 seat shelf stock
+  looked_at_none stock sound marks first key =
       record {
-        sound-is = sound ∙ sym (no-slots-are-sound 0 shelf seat);
-        marks-are = λ is sender number low high. rw (marks, nothing-on-no-slots 0 shelf sender number) (sym (or-false _));
-        first-is = λ some is. rw (first, key) (none-ready-on-no-slots seat shelf);
+        sound_is = sound ∙ sym (no_slots_are_sound 0 shelf seat);
+        marks_are = λ is sender number low high. rw (marks, nothing_on_no_slots 0 shelf sender number) (sym (or-false _));
+        first_is = λ some is. rw (first, key) (none_ready_on_no_slots seat shelf);
       }
 
-  pub looked-at-all : (n : ℕ) (stock : Stock) → Looked choosing n seat shelf stock → n ≡ slots shelf → Surveyed choosing seat shelf stock
-  looked-at-all n stock so all =
+  pub looked_at_all : (n : ℕ) (stock : Stock) → Looked choosing n seat shelf stock → n ≡ slots shelf → Surveyed choosing seat shelf stock
+  looked_at_all n stock so all =
       let here : Looked choosing (slots shelf) seat shelf stock = rw all at so in
-      record { sound-is = here.sound-is; marks-are = here.marks-are; first-is = λ some is. first-is-chosen seat shelf stock.first stock.key (here.first-is some is) }
+      record { sound_is = here.sound_is; marks_are = here.marks_are; first_is = λ some is. first_is_chosen seat shelf stock.first stock.key (here.first_is some is) }
 
   -- once a slot is not sound, no more is claimed
-  pub slot-is-bad : (n : ℕ) (stock : Stock) → stock.sound ≡ false → soundSlots n seat shelf ≡ false → Looked choosing n seat shelf stock
-  slot-is-bad n stock unsound bad =
+  pub slot_is_bad : (n : ℕ) (stock : Stock) → stock.sound ≡ false → sound_slots n seat shelf ≡ false → Looked choosing n seat shelf stock
+  slot_is_bad n stock unsound bad =
       record {
-        sound-is = unsound ∙ sym bad;
-        marks-are = λ is. absurd (true≢false (sym is ∙ unsound));
-        first-is = λ some is. absurd (true≢false (sym is ∙ unsound));
+        sound_is = unsound ∙ sym bad;
+        marks_are = λ is. absurd (true≢false (sym is ∙ unsound));
+        first_is = λ some is. absurd (true≢false (sym is ∙ unsound));
       }
 
-  pub looked-in-vain : (n : ℕ) (stock : Stock) → Looked choosing n seat shelf stock → n ≤ slots shelf → stock.sound ≡ false → Surveyed choosing seat shelf stock
-  looked-in-vain n stock so low unsound =
-      looked-at-all (slots shelf) stock
-      (slot-is-bad (slots shelf) stock unsound (more-stay-unsound n (slots shelf) seat shelf low (sym so.sound-is ∙ unsound))) refl
+  pub looked_in_vain : (n : ℕ) (stock : Stock) → Looked choosing n seat shelf stock → n ≤ slots shelf → stock.sound ≡ false → Surveyed choosing seat shelf stock
+  looked_in_vain n stock so low unsound =
+      looked_at_all (slots shelf) stock
+      (slot_is_bad (slots shelf) stock unsound (more_stay_unsound n (slots shelf) seat shelf low (sym so.sound_is ∙ unsound))) refl
 
   -- ---- one slot more
 
   module _ (i : ℕ) (stock : Stock) (sound : stock.sound ≡ true) (so : Looked choosing i seat shelf stock) where
-    pub slot-is-free : isFree shelf i ≡ true → Looked choosing (i + 1) seat shelf stock
-    slot-is-free free =
+    pub slot_is_free : is_free shelf i ≡ true → Looked choosing (i + 1) seat shelf stock
+    slot_is_free free =
         record {
-          sound-is = so.sound-is ∙ sym (free-slot-is-sound i shelf seat free);
-          marks-are = λ is sender number low high. rw (free-slot-adds-no-edit i shelf sender number free) (so.marks-are is sender number low high);
-          first-is = λ some is. slot-not-ready seat shelf i stock.first stock.key (so.first-is some is) (free-slot-is-not-ready seat shelf i free);
+          sound_is = so.sound_is ∙ sym (free_slot_is_sound i shelf seat free);
+          marks_are = λ is sender number low high. rw (free_slot_adds_no_edit i shelf sender number free) (so.marks_are is sender number low high);
+          first_is = λ some is. slot_not_ready seat shelf i stock.first stock.key (so.first_is some is) (free_slot_is_not_ready seat shelf i free);
         }
 
-    module _ (reading : Reading) (is : reading ≡ read_of (packetAt shelf i)) (used : isFree shelf i ≡ false) where
+    module _ (reading : Reading) (is : reading ≡ read_of (packet_at shelf i)) (used : is_free shelf i ≡ false) where
       -- the slots stay sound where the packet passes and is on no slot before
-      sound-so-far : soundSlots (i + 1) seat shelf
-          ≡ (passesAs seat reading.past reading.answer && not (onSlots i shelf (senderOf (packetAt shelf i)) (number_of (packetAt shelf i))))
+      sound_so_far : sound_slots (i + 1) seat shelf
+          ≡ (passes_as seat reading.past reading.answer && not (on_slots i shelf (sender_of (packet_at shelf i)) (number_of (packet_at shelf i))))
       unfolding passes
-      sound-so-far = rw is (used-slot-is-sound i shelf seat used ∙ rw (sym so.sound-is ∙ sound))
+      sound_so_far = rw is (used_slot_is_sound i shelf seat used ∙ rw (sym so.sound_is ∙ sound))
 
-      pub refused-is-bad : reading.answer ≡ Refused → soundSlots (i + 1) seat shelf ≡ false
-      refused-is-bad refused = sound-so-far ∙ rw refused
+      pub refused_is_bad : reading.answer ≡ Refused → sound_slots (i + 1) seat shelf ≡ false
+      refused_is_bad refused = sound_so_far ∙ rw refused
 
       module _ (heading : Heading) (answered : reading.answer ≡ Packet heading) where
-        facts : Told (packetAt shelf i) reading heading
-        facts = told (packetAt shelf i) reading is heading answered
+        facts : Told (packet_at shelf i) reading heading
+        facts = told (packet_at shelf i) reading is heading answered
 
         abbrev packet : List ℕ
-        packet = packetAt shelf i
+        packet = packet_at shelf i
 
-        pub sound-where-passed : soundSlots (i + 1) seat shelf ≡ passesBeside seat stock.marks heading reading.past
-        unfolding passesBeside
-        sound-where-passed =
+        pub sound_where_passed : sound_slots (i + 1) seat shelf ≡ passes_beside seat stock.marks heading reading.past
+        unfolding passes_beside
+        sound_where_passed =
             let t = facts in
             let number = entry reading.past heading.sender in
-            let marks = so.marks-are sound heading.sender number t.sender-low (omega arith) in
-            let before : onSlots i shelf (senderOf packet) (number_of packet) ≡ onSlots i shelf heading.sender number =
-            ap₂ (λ (sender : SeatNo) (past : List ℕ). onSlots i shelf sender (entry past sender)) (sym t.sender) (sym t.past) in
-            sound-so-far
-            ∙ ap₂ (λ (answer : ReadAnswer) (repeated : Bool). passesAs seat reading.past answer && not repeated) answered before
+            let marks = so.marks_are sound heading.sender number t.sender_low (omega arith) in
+            let before : on_slots i shelf (sender_of packet) (number_of packet) ≡ on_slots i shelf heading.sender number =
+            ap₂ (λ (sender : SeatNo) (past : List ℕ). on_slots i shelf sender (entry past sender)) (sym t.sender) (sym t.past) in
+            sound_so_far
+            ∙ ap₂ (λ (answer : ReadAnswer) (repeated : Bool). passes_as seat reading.past answer && not repeated) answered before
             ∙ sym
             (rw marks
-            (beside (otherSession seat heading) (aboveOwnCount seat reading.past) (isHanded seat heading.sender number) (onSlots i shelf heading.sender number)
-            (tooFarAhead seat heading.sender number)))
+            (beside (other_session seat heading) (above_own_count seat reading.past) (is_handed seat heading.sender number) (on_slots i shelf heading.sender number)
+            (too_far_ahead seat heading.sender number)))
 
-        module _ (passed : passesBeside seat stock.marks heading reading.past ≡ true) (next : Stock)
+        module _ (passed : passes_beside seat stock.marks heading reading.past ≡ true) (next : Stock)
             (counted : Counted choosing seat stock i heading.sender reading.past reading.barrier next)
             (long : length stock.marks ≡ 16) (count : entry reading.past heading.sender < 65536) where
-          marks-more : (sender : SeatNo) (number : ℕ) → 1 ≤ sender.0 → sender.0 ≤ 16
-              → handed (windowWith seat.run next.marks sender) number ≡ (isHanded seat sender number || onSlots (i + 1) shelf sender number)
-          unfolding isEdit
-          marks-more sender number low high =
+          marks_more : (sender : SeatNo) (number : ℕ) → 1 ≤ sender.0 → sender.0 ≤ 16
+              → handed (window_with seat.run next.marks sender) number ≡ (is_handed seat sender number || on_slots (i + 1) shelf sender number)
+          unfolding is_edit
+          marks_more sender number low high =
               let t = facts in
               let own = entry reading.past heading.sender in
-              let edit : (eqb heading.sender.0 sender.0 && eqb own number) ≡ isEdit packet sender number =
+              let edit : (eqb heading.sender.0 sender.0 && eqb own number) ≡ is_edit packet sender number =
               ap₂ (λ (from : SeatNo) (past : List ℕ). eqb from.0 sender.0 && eqb (entry past from) number) t.sender t.past in
-              ap (λ (words : List ℕ). handed (windowWith seat.run words sender) number) counted.marks-are
-              ∙ marking-adds-the-edit seat stock.marks heading.sender own long t.sender-low (omega arith)
-              (passed-is-in-window seat stock.marks heading reading.past passed).0 sender number low
-              ∙ ap₂ ◌||◌ (so.marks-are sound sender number low high) edit
-              ∙ or_assoc (isHanded seat sender number) (onSlots i shelf sender number) (isEdit packet sender number)
-              ∙ ap (λ (b : Bool). isHanded seat sender number || b) (sym (used-slot-adds-its-edit i shelf sender number used))
+              ap (λ (words : List ℕ). handed (window_with seat.run words sender) number) counted.marks_are
+              ∙ marking_adds_the_edit seat stock.marks heading.sender own long t.sender_low (omega arith)
+              (passed_is_in_window seat stock.marks heading reading.past passed).0 sender number low
+              ∙ ap₂ ◌||◌ (so.marks_are sound sender number low high) edit
+              ∙ or_assoc (is_handed seat sender number) (on_slots i shelf sender number) (is_edit packet sender number)
+              ∙ ap (λ (b : Bool). is_handed seat sender number || b) (sym (used_slot_adds_its_edit i shelf sender number used))
 
           first_more : choosing ≡ true → FirstReady (i + 1) seat shelf next.first next.key
           first_more some =
@@ -126,10 +126,10 @@ module _ (choosing : Bool) (seat : Seat) (shelf : List ℕ) where
               let key : key_of heading.sender own ≡ key_at shelf i = ap₂ (λ (from : SeatNo) (past : List ℕ). key_of from (entry past from)) t.sender t.past in
               let is-sooner = ap₂ (λ (barrier : List ℕ) (k : ℕ). ready seat barrier && ltb k stock.key) t.barrier key in
               let compared =
-              used-slot-compared seat shelf i stock.first stock.key (so.first-is some sound) (omega arith) (omega arith) used
+              used_slot_compared seat shelf i stock.first stock.key (so.first_is some sound) (omega arith) (omega arith) used
               (sooner seat stock heading.sender reading.past reading.barrier) is-sooner in
-              rw (counted.first-is some, counted.key-is some ∙ ap (λ (k : ℕ). cond (sooner seat stock heading.sender reading.past reading.barrier) k stock.key) key) compared
+              rw (counted.first_is some, counted.key_is some ∙ ap (λ (k : ℕ). cond (sooner seat stock heading.sender reading.past reading.barrier) k stock.key) key) compared
 
-          pub packet-is-counted : Looked choosing (i + 1) seat shelf next
-          packet-is-counted =
-              record { sound-is = counted.stays-sound ∙ sym (sound-where-passed ∙ passed); marks-are = λ is. marks-more; first-is = λ some is. first_more some }
+          pub packet_is_counted : Looked choosing (i + 1) seat shelf next
+          packet_is_counted =
+              record { sound_is = counted.stays_sound ∙ sym (sound_where_passed ∙ passed); marks_are = λ is. marks_more; first_is = λ some is. first_more some }

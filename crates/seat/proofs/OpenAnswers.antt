@@ -11,52 +11,52 @@ use Rattle.answers.specs.declared.Refusal.TheVariants.{NoSuchSeat, NotSound}
 use Rattle.answers.specs.declared.Answer.{Answer}
 use Rattle.answers.specs.declared.Answer.TheVariants.{Opened, Refused}
 use Rattle.packet.specs.Writing.{in_range}
-use Rattle.shelf.specs.Shelf.{wholeSlots}
-use Rattle.seat.specs.State.{counting, noSeat}
-use Rattle.seat.specs.Opening.{openRefusals, openAnswer, OpenedAs}
+use Rattle.shelf.specs.Shelf.{whole_slots}
+use Rattle.seat.specs.State.{counting, no_seat}
+use Rattle.seat.specs.Opening.{open_refusals, open_answer, OpenedAs}
 use Rattle.seat.specs.declared.Seat.{Seat}
 use Rattle.seat.specs.declared.Stepped.{Stepped}
 
 -- The occasion of each answer. Opening gives no others.
 pub data OpenOccasion (n : ℕ) (own : SeatNo) (shelf : List ℕ) : Answer → Type 0 where
-  opened : in_range (record { n = n; sender = own }) ≡ true → wholeSlots shelf ≡ true → OpenOccasion n own shelf Opened
-  no-such-seat : in_range (record { n = n; sender = own }) ≡ false → OpenOccasion n own shelf (Refused NoSuchSeat)
-  broken-shelf : in_range (record { n = n; sender = own }) ≡ true → wholeSlots shelf ≡ false → OpenOccasion n own shelf (Refused NotSound)
+  opened : in_range (record { n = n; sender = own }) ≡ true → whole_slots shelf ≡ true → OpenOccasion n own shelf Opened
+  no_such_seat : in_range (record { n = n; sender = own }) ≡ false → OpenOccasion n own shelf (Refused NoSuchSeat)
+  broken_shelf : in_range (record { n = n; sender = own }) ≡ true → whole_slots shelf ≡ false → OpenOccasion n own shelf (Refused NotSound)
 
 module _ (n : ℕ) (own : SeatNo) (shelf : List ℕ) where
   -- ---- from the occasion to the answer
 
-  pub no-such-seat-answers-20 : in_range (record { n = n; sender = own }) ≡ false → openAnswer n own shelf ≡ Refused NoSuchSeat
-  unfolding openAnswer openRefusals first_of
-  no-such-seat-answers-20 range = rw range
+  pub no_such_seat_answers_20 : in_range (record { n = n; sender = own }) ≡ false → open_answer n own shelf ≡ Refused NoSuchSeat
+  unfolding open_answer open_refusals first_of
+  no_such_seat_answers_20 range = rw range
 
-  pub broken-shelf-answers-10 : in_range (record { n = n; sender = own }) ≡ true → wholeSlots shelf ≡ false → openAnswer n own shelf ≡ Refused NotSound
-  unfolding openAnswer openRefusals first_of
-  broken-shelf-answers-10 range whole = rw (range, whole)
+  pub broken_shelf_answers_10 : in_range (record { n = n; sender = own }) ≡ true → whole_slots shelf ≡ false → open_answer n own shelf ≡ Refused NotSound
+  unfolding open_answer open_refusals first_of
+  broken_shelf_answers_10 range whole = rw (range, whole)
 
-  pub opening-answers-0 : in_range (record { n = n; sender = own }) ≡ true → wholeSlots shelf ≡ true → openAnswer n own shelf ≡ Opened
-  unfolding openAnswer openRefusals first_of
-  opening-answers-0 range whole = rw (range, whole)
+  pub opening_answers_0 : in_range (record { n = n; sender = own }) ≡ true → whole_slots shelf ≡ true → open_answer n own shelf ≡ Opened
+  unfolding open_answer open_refusals first_of
+  opening_answers_0 range whole = rw (range, whole)
 
   -- ---- from the answer to the occasion
 
-  tests-tell : (range whole : Bool) → in_range (record { n = n; sender = own }) ≡ range → wholeSlots shelf ≡ whole
+  tests_tell : (range whole : Bool) → in_range (record { n = n; sender = own }) ≡ range → whole_slots shelf ≡ whole
       → OpenOccasion n own shelf (first_of ((NoSuchSeat, not range) ∷ (NotSound, not whole) ∷ []) Opened)
   unfolding first_of
-  tests-tell false whole r w = no-such-seat r
-  tests-tell true false r w = broken-shelf r w
-  tests-tell true true r w = opened r w
+  tests_tell false whole r w = no_such_seat r
+  tests_tell true false r w = broken_shelf r w
+  tests_tell true true r w = opened r w
 
-  pub open-tells-its-occasion : (answer : Answer) → openAnswer n own shelf ≡ answer → OpenOccasion n own shelf answer
-  unfolding openAnswer openRefusals
-  open-tells-its-occasion answer e = subst (OpenOccasion n own shelf) e (tests-tell _ _ refl refl)
+  pub open_tells_its_occasion : (answer : Answer) → open_answer n own shelf ≡ answer → OpenOccasion n own shelf answer
+  unfolding open_answer open_refusals
+  open_tells_its_occasion answer e = subst (OpenOccasion n own shelf) e (tests_tell _ _ refl refl)
 
   -- ---- the contract at each way out
 
-  pub refused-open : (refusal : Refusal) (seat : Seat) (stepped : Stepped) → openAnswer n own shelf ≡ Refused refusal → seat ≡ noSeat
+  pub refused_open : (refusal : Refusal) (seat : Seat) (stepped : Stepped) → open_answer n own shelf ≡ Refused refusal → seat ≡ no_seat
       → (stepped.seat ≡ seat) × (stepped.answer ≡ Refused refusal) → OpenedAs n own shelf stepped shelf
-  refused-open refusal seat stepped e none is = record { answered = is.1 ∙ sym e; next = rw e (is.0 ∙ none); shelf-after = rw e }
+  refused_open refusal seat stepped e none is = record { answered = is.1 ∙ sym e; next = rw e (is.0 ∙ none); shelf_after_is = rw e }
 
-  pub done-open : (seat : Seat) (after : List ℕ) → openAnswer n own shelf ≡ Opened → seat ≡ counting n own → after ≡ replicate (length shelf) 0
+  pub done_open : (seat : Seat) (after : List ℕ) → open_answer n own shelf ≡ Opened → seat ≡ counting n own → after ≡ replicate (length shelf) 0
       → OpenedAs n own shelf (record { seat = seat; answer = Opened }) after
-  done-open seat after e is cleared = record { answered = sym e; next = rw e is; shelf-after = rw e cleared }
+  done_open seat after e is cleared = record { answered = sym e; next = rw e is; shelf_after_is = rw e cleared }

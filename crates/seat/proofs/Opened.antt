@@ -9,47 +9,47 @@ use Rattle.answers.specs.declared.SeatNo.{SeatNo}
 use Rattle.vectors.specs.Vectors.{zeros}
 use Rattle.window.proofs.Sound as window
 use Rattle.packet.specs.Writing.{in_range}
-use Rattle.packet.proofs.Writable.{in-range}
-use Rattle.seat.specs.State.{windowAt, counting, noSeat, soundState, Held}
-use Rattle.seat.proofs.Sound.{sound-passes, out-of-range-is-not-sound}
+use Rattle.packet.proofs.Writable.{is_in_range}
+use Rattle.seat.specs.State.{window_at, counting, no_seat, sound_state, Held}
+use Rattle.seat.proofs.Sound.{sound_passes, out_of_range_is_not_sound}
 
-pub zeros-at : (k : ℕ) → get_or zeros k 0 ≡ 0
-zeros-at k =
+pub zeros_at : (k : ℕ) → get_or zeros k 0 ≡ 0
+zeros_at k =
     elim (dec_lt k 16) [
       | yes inside ↦ get_or-replicate 16 k 0 0 inside
       | no above ↦ get_or-eq_default zeros 0 {n = k} (omega arith)
     ]
 
-pub counting-is-sound : (n : ℕ) (own : SeatNo) → in_range (record { n = n; sender = own }) ≡ true → soundState (counting n own) ≡ true
-counting-is-sound n own e =
-    let range = in-range (record { n = n; sender = own }) e in
-    sound-passes (counting n own)
+pub counting_is_sound : (n : ℕ) (own : SeatNo) → in_range (record { n = n; sender = own }) ≡ true → sound_state (counting n own) ≡ true
+counting_is_sound n own e =
+    let range = is_in_range (record { n = n; sender = own }) e in
+    sound_passes (counting n own)
     (record {
-      seats-low = range.seats-low;
-      seats-high = range.seats-high;
-      own-low = range.sender-low;
-      own-high = range.sender-high;
-      past-above = λ k h b. zeros-at k;
-      barrier-above = λ k h b. zeros-at k;
-      run-above = λ k h b. zeros-at k;
-      ahead-above = λ k h b. zeros-at k;
-      barrier-within = λ k b. omega arith;
-      windows = λ k b. window.sound-says (get_or zeros k 0) (windowAt (counting n own) k) (rw (zeros-at k) (window.fresh-is-sound 0));
+      seats_low = range.seats_low;
+      seats_high = range.seats_high;
+      own_low = range.sender_low;
+      own_high = range.sender_high;
+      past_above = λ k h b. zeros_at k;
+      barrier_above = λ k h b. zeros_at k;
+      run_above = λ k h b. zeros_at k;
+      ahead_above = λ k h b. zeros_at k;
+      barrier_within = λ k b. omega arith;
+      windows = λ k b. window.sound_says (get_or zeros k 0) (window_at (counting n own) k) (rw (zeros_at k) (window.fresh_is_sound 0));
     })
 
-pub counting-is-held : (n : ℕ) (own : SeatNo) → Held (counting n own)
-counting-is-held n own =
+pub counting_is_held : (n : ℕ) (own : SeatNo) → Held (counting n own)
+counting_is_held n own =
     record {
-      past-long = refl;
-      barrier-long = refl;
+      past_long = refl;
+      barrier_long = refl;
       run_long = refl;
-      ahead-long = refl;
-      past_fits = λ k. omega (arith, zeros-at k);
-      barrier-fits = λ k. omega (arith, zeros-at k);
-      run_fits = λ k. omega (arith, zeros-at k);
-      ahead-fits = λ k. omega (arith, zeros-at k);
+      ahead_long = refl;
+      past_fits = λ k. omega (arith, zeros_at k);
+      barrier_fits = λ k. omega (arith, zeros_at k);
+      run_fits = λ k. omega (arith, zeros_at k);
+      ahead_fits = λ k. omega (arith, zeros_at k);
     }
 
-pub no-seat-is-not-sound : soundState noSeat ≡ false
+pub no_seat_is_not_sound : sound_state no_seat ≡ false
 unfolding in_range
-no-seat-is-not-sound = out-of-range-is-not-sound noSeat refl
+no_seat_is_not_sound = out_of_range_is_not_sound no_seat refl

@@ -4,18 +4,18 @@ use mathlib.Core.Path.{◌≡◌}
 use mathlib.Core.Bool.{true, false, not}
 use mathlib.Core.List.{List}
 use Rattle.vectors.proofs.Every.{and_both}
-use Rattle.packet.specs.Packet.{barrierOf}
-use Rattle.shelf.specs.Shelf.{isFree}
-use Rattle.seat.specs.Stock.{packetAt}
+use Rattle.packet.specs.Packet.{barrier_of}
+use Rattle.shelf.specs.Shelf.{is_free}
+use Rattle.seat.specs.Stock.{packet_at}
 use Rattle.seat.specs.HandingOver.{ready}
-use Rattle.seat.specs.Releasing.{readyAt}
+use Rattle.seat.specs.Releasing.{ready_at}
 use Rattle.seat.specs.declared.Seat.{Seat}
 
 module _ (seat : Seat) (shelf : List ℕ) (i : ℕ) where
-  pub ready-slot-has-a-ready-packet : readyAt seat shelf i ≡ true → ready seat (barrierOf (packetAt shelf i)) ≡ true
-  unfolding readyAt
-  ready-slot-has-a-ready-packet is = (and_both (not (isFree shelf i)) (ready seat (barrierOf (packetAt shelf i))) is).1
+  pub ready_slot_has_a_ready_packet : ready_at seat shelf i ≡ true → ready seat (barrier_of (packet_at shelf i)) ≡ true
+  unfolding ready_at
+  ready_slot_has_a_ready_packet is = (and_both (not (is_free shelf i)) (ready seat (barrier_of (packet_at shelf i))) is).1
 
-  pub ready-packet-makes-a-ready-slot : isFree shelf i ≡ false → ready seat (barrierOf (packetAt shelf i)) ≡ true → readyAt seat shelf i ≡ true
-  unfolding readyAt
-  ready-packet-makes-a-ready-slot used is = rw (used, is)
+  pub ready_packet_makes_a_ready_slot : is_free shelf i ≡ false → ready seat (barrier_of (packet_at shelf i)) ≡ true → ready_at seat shelf i ≡ true
+  unfolding ready_at
+  ready_packet_makes_a_ready_slot used is = rw (used, is)

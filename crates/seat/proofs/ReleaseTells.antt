@@ -14,31 +14,31 @@ use Rattle.answers.specs.declared.Refusal.TheVariants.{NotSound, OutputTooShort,
 use Rattle.answers.specs.declared.Answer.{Answer}
 use Rattle.answers.specs.declared.Answer.TheVariants.{Done, NothingReady, Refused}
 use Rattle.vectors.proofs.Every.{and_both}
-use Rattle.packet.specs.Packet.{past_of, barrierOf}
+use Rattle.packet.specs.Packet.{past_of, barrier_of}
 use Rattle.packet.specs.Reading.{body_of}
 use Rattle.shelf.specs.Shelf.{slots}
-use Rattle.seat.specs.State.{soundState}
-use Rattle.seat.specs.Stock.{soundShelf}
-use Rattle.seat.specs.HandingOver.{barrierAbovePast}
-use Rattle.seat.specs.Arriving.{headingOf, soundBoth, editHanded}
-use Rattle.seat.specs.Releasing.{chosen, chosenPacket, takeRefusals, releaseAnswer}
+use Rattle.seat.specs.State.{sound_state}
+use Rattle.seat.specs.Stock.{sound_shelf}
+use Rattle.seat.specs.HandingOver.{barrier_above_past}
+use Rattle.seat.specs.Arriving.{heading_of, sound_both, edit_handed}
+use Rattle.seat.specs.Releasing.{chosen, chosen_packet, take_refusals, release_answer}
 use Rattle.seat.specs.declared.Seat.{Seat}
-use Rattle.seat.proofs.Chosen.{chosen-is-at-most-slots}
+use Rattle.seat.proofs.Chosen.{chosen_is_at_most_slots}
 
 -- The packet on the chosen slot is handed over.
 pub record ReleaseDone (seat : Seat) (shelf out : List ℕ) (edit : Edit) : Type 0 where
-  pub sound : soundState seat ≡ true
-  pub shelf-sound : soundShelf seat shelf ≡ true
+  pub sound : sound_state seat ≡ true
+  pub shelf_sound : sound_shelf seat shelf ≡ true
   pub there : chosen seat shelf < slots shelf
-  pub room : ltb (length out) (length (body_of (chosenPacket seat shelf))) ≡ false
-  pub barrier-stays : barrierAbovePast seat (headingOf (chosenPacket seat shelf)) (past_of (chosenPacket seat shelf)) (barrierOf (chosenPacket seat shelf)) ≡ false
-  pub edit-is : editHanded (chosenPacket seat shelf) ≡ edit
+  pub room : ltb (length out) (length (body_of (chosen_packet seat shelf))) ≡ false
+  pub barrier_stays : barrier_above_past seat (heading_of (chosen_packet seat shelf)) (past_of (chosen_packet seat shelf)) (barrier_of (chosen_packet seat shelf)) ≡ false
+  pub edit_is : edit_handed (chosen_packet seat shelf) ≡ edit
 
 -- Nothing on the shelf is ready.
 pub record ReleaseIdle (seat : Seat) (shelf : List ℕ) : Type 0 where
-  pub sound : soundState seat ≡ true
-  pub shelf-sound : soundShelf seat shelf ≡ true
-  pub none-chosen : chosen seat shelf ≡ slots shelf
+  pub sound : sound_state seat ≡ true
+  pub shelf_sound : sound_shelf seat shelf ≡ true
+  pub none_chosen : chosen seat shelf ≡ slots shelf
 
 -- What each answer tells. A release gives no others.
 pub data ReleaseTold (seat : Seat) (shelf out : List ℕ) : Answer → Type 0 where
@@ -48,33 +48,33 @@ pub data ReleaseTold (seat : Seat) (shelf out : List ℕ) : Answer → Type 0 wh
 
 module _ (seat : Seat) (shelf out : List ℕ) where
   abbrev packet : List ℕ
-  packet = chosenPacket seat shelf
+  packet = chosen_packet seat shelf
 
-  tests-tell : (sound none short above : Bool) → soundBoth seat shelf ≡ sound → eqb (chosen seat shelf) (slots shelf) ≡ none
+  tests_tell : (sound none short above : Bool) → sound_both seat shelf ≡ sound → eqb (chosen seat shelf) (slots shelf) ≡ none
       → ltb (length out) (length (body_of packet)) ≡ short
-      → barrierAbovePast seat (headingOf packet) (past_of packet) (barrierOf packet) ≡ above
+      → barrier_above_past seat (heading_of packet) (past_of packet) (barrier_of packet) ≡ above
       → ReleaseTold seat shelf out
       (first_of ((NotSound, not sound) ∷ [])
-      (cond none NothingReady (first_of ((OutputTooShort, short) ∷ (BarrierAbovePast, above) ∷ []) (Done (editHanded packet)))))
+      (cond none NothingReady (first_of ((OutputTooShort, short) ∷ (BarrierAbovePast, above) ∷ []) (Done (edit_handed packet)))))
   unfolding first_of
-  tests-tell false none short above s n o a = refused NotSound
-  tests-tell true true short above s n o a =
-      let both = and_both (soundState seat) (soundShelf seat shelf) s in
-      idle (record { sound = both.0; shelf-sound = both.1; none-chosen = eqb-true _ _ n })
-  tests-tell true false true above s n o a = refused OutputTooShort
-  tests-tell true false false true s n o a = refused BarrierAbovePast
-  tests-tell true false false false s n o a =
-      let both = and_both (soundState seat) (soundShelf seat shelf) s in
-      done (editHanded packet)
+  tests_tell false none short above s n o a = refused NotSound
+  tests_tell true true short above s n o a =
+      let both = and_both (sound_state seat) (sound_shelf seat shelf) s in
+      idle (record { sound = both.0; shelf_sound = both.1; none_chosen = eqb-true _ _ n })
+  tests_tell true false true above s n o a = refused OutputTooShort
+  tests_tell true false false true s n o a = refused BarrierAbovePast
+  tests_tell true false false false s n o a =
+      let both = and_both (sound_state seat) (sound_shelf seat shelf) s in
+      done (edit_handed packet)
       (record {
         sound = both.0;
-        shelf-sound = both.1;
-        there = lt_of_le-ne (chosen-is-at-most-slots seat shelf) (eqb-false _ _ n);
+        shelf_sound = both.1;
+        there = lt_of_le-ne (chosen_is_at_most_slots seat shelf) (eqb-false _ _ n);
         room = o;
-        barrier-stays = a;
-        edit-is = refl;
+        barrier_stays = a;
+        edit_is = refl;
       })
 
-  pub release-tells : (answer : Answer) → releaseAnswer seat shelf out ≡ answer → ReleaseTold seat shelf out answer
-  unfolding releaseAnswer takeRefusals
-  release-tells answer e = subst (ReleaseTold seat shelf out) e (tests-tell _ _ _ _ refl refl refl refl)
+  pub release_tells : (answer : Answer) → release_answer seat shelf out ≡ answer → ReleaseTold seat shelf out answer
+  unfolding release_answer take_refusals
+  release_tells answer e = subst (ReleaseTold seat shelf out) e (tests_tell _ _ _ _ refl refl refl refl)

@@ -9,65 +9,65 @@ use Rattle.window.specs.Window.{SoundWindow}
 use Rattle.window.proofs.Sound as window
 use Rattle.packet.specs.declared.Kind.{Kind}
 use Rattle.packet.specs.declared.Kind.TheVariants.{Ordinary, Causal}
-use Rattle.seat.specs.State.{ownCount, windowAt, soundState, SoundState, Held}
-use Rattle.seat.specs.Sending.{pastSent, barrierAfter, sentSeat}
+use Rattle.seat.specs.State.{own_count, window_at, sound_state, SoundState, Held}
+use Rattle.seat.specs.Sending.{past_sent, barrier_after, sent_seat}
 use Rattle.seat.specs.declared.Seat.{Seat}
-use Rattle.seat.proofs.Sound.{sound-says, sound-passes}
-use Rattle.seat.proofs.Sent.{no-count-falls, past-sent-is-zero-above, past-sent-is-counts}
+use Rattle.seat.proofs.Sound.{sound_says, sound_passes}
+use Rattle.seat.proofs.Sent.{no_count_falls, past_sent_is_zero_above, past_sent_is_counts}
 
-module _ (seat : Seat) (sound : soundState seat ≡ true) (held : Held seat) where
+module _ (seat : Seat) (sound : sound_state seat ≡ true) (held : Held seat) where
   was : SoundState seat
-  was = sound-says seat sound
+  was = sound_says seat sound
 
-  barrier-above : (kind : Kind) (k : ℕ) → seat.n ≤ k → k < 16 → get_or (barrierAfter seat kind) k 0 ≡ 0
-  barrier-above Ordinary = was.barrier-above
-  barrier-above Causal = past-sent-is-zero-above seat sound held
+  barrier_above : (kind : Kind) (k : ℕ) → seat.n ≤ k → k < 16 → get_or (barrier_after seat kind) k 0 ≡ 0
+  barrier_above Ordinary = was.barrier_above
+  barrier_above Causal = past_sent_is_zero_above seat sound held
 
-  barrier-within : (kind : Kind) (k : ℕ) → k < 16 → get_or (barrierAfter seat kind) k 0 ≤ get_or (pastSent seat) k 0
-  barrier-within Ordinary k b = omega (arith, was.barrier-within k b, no-count-falls seat sound held k)
-  barrier-within Causal k b = omega arith
+  barrier_within : (kind : Kind) (k : ℕ) → k < 16 → get_or (barrier_after seat kind) k 0 ≤ get_or (past_sent seat) k 0
+  barrier_within Ordinary k b = omega (arith, was.barrier_within k b, no_count_falls seat sound held k)
+  barrier_within Causal k b = omega arith
 
-  windows : (k : ℕ) → k < 16 → SoundWindow (get_or (pastSent seat) k 0) (windowAt seat k)
+  windows : (k : ℕ) → k < 16 → SoundWindow (get_or (past_sent seat) k 0) (window_at seat k)
   windows k b =
-      window.sound-says (get_or (pastSent seat) k 0) (windowAt seat k)
-      (window.sound-grows (get_or seat.past k 0) (get_or (pastSent seat) k 0) (windowAt seat k)
-      (window.sound-passes (get_or seat.past k 0) (windowAt seat k) (was.windows k b)) (no-count-falls seat sound held k))
+      window.sound_says (get_or (past_sent seat) k 0) (window_at seat k)
+      (window.sound_grows (get_or seat.past k 0) (get_or (past_sent seat) k 0) (window_at seat k)
+      (window.sound_passes (get_or seat.past k 0) (window_at seat k) (was.windows k b)) (no_count_falls seat sound held k))
 
-  pub sending-keeps-sound : (kind : Kind) → soundState (sentSeat seat kind) ≡ true
-  unfolding sentSeat
-  sending-keeps-sound kind =
+  pub sending_keeps_sound : (kind : Kind) → sound_state (sent_seat seat kind) ≡ true
+  unfolding sent_seat
+  sending_keeps_sound kind =
       let s = was in
-      sound-passes (sentSeat seat kind)
+      sound_passes (sent_seat seat kind)
       (record {
-        seats-low = s.seats-low;
-        seats-high = s.seats-high;
-        own-low = s.own-low;
-        own-high = s.own-high;
-        past-above = past-sent-is-zero-above seat sound held;
-        barrier-above = barrier-above kind;
-        run-above = s.run-above;
-        ahead-above = s.ahead-above;
-        barrier-within = barrier-within kind;
+        seats_low = s.seats_low;
+        seats_high = s.seats_high;
+        own_low = s.own_low;
+        own_high = s.own_high;
+        past_above = past_sent_is_zero_above seat sound held;
+        barrier_above = barrier_above kind;
+        run_above = s.run_above;
+        ahead_above = s.ahead_above;
+        barrier_within = barrier_within kind;
         windows = windows;
       })
 
-  module _ (not_full : ownCount seat < 65535) where
-    barrier-counts : (kind : Kind) → Counts (barrierAfter seat kind)
-    barrier-counts Ordinary = record { long = held.barrier-long; fits = held.barrier-fits }
-    barrier-counts Causal = past-sent-is-counts seat sound held not_full
+  module _ (not_full : own_count seat < 65535) where
+    barrier_counts : (kind : Kind) → Counts (barrier_after seat kind)
+    barrier_counts Ordinary = record { long = held.barrier_long; fits = held.barrier_fits }
+    barrier_counts Causal = past_sent_is_counts seat sound held not_full
 
-    pub sending-keeps-held : (kind : Kind) → Held (sentSeat seat kind)
-    unfolding sentSeat
-    sending-keeps-held kind =
-        let past = past-sent-is-counts seat sound held not_full in
-        let barrier = barrier-counts kind in
+    pub sending_keeps_held : (kind : Kind) → Held (sent_seat seat kind)
+    unfolding sent_seat
+    sending_keeps_held kind =
+        let past = past_sent_is_counts seat sound held not_full in
+        let barrier = barrier_counts kind in
         record {
-          past-long = past.long;
-          barrier-long = barrier.long;
+          past_long = past.long;
+          barrier_long = barrier.long;
           run_long = held.run_long;
-          ahead-long = held.ahead-long;
+          ahead_long = held.ahead_long;
           past_fits = past.fits;
-          barrier-fits = barrier.fits;
+          barrier_fits = barrier.fits;
           run_fits = held.run_fits;
-          ahead-fits = held.ahead-fits;
+          ahead_fits = held.ahead_fits;
         }

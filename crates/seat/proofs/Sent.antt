@@ -10,79 +10,79 @@ use lib.Seq.{get_or-set_same, get_or-set_other}
 use Rattle.vectors.specs.Vectors.{entry, Counts}
 use Rattle.packet.specs.declared.Kind.{Kind}
 use Rattle.packet.specs.declared.Kind.TheVariants.{Ordinary, Causal}
-use Rattle.seat.specs.State.{ownCount, windowAt, soundState, Held}
-use Rattle.seat.specs.HandingOver.{raisedBy}
-use Rattle.seat.specs.Sending.{barrierSent, pastSent, barrierAfter, sentSeat}
+use Rattle.seat.specs.State.{own_count, window_at, sound_state, Held}
+use Rattle.seat.specs.HandingOver.{raised_by}
+use Rattle.seat.specs.Sending.{barrier_sent, past_sent, barrier_after, sent_seat}
 use Rattle.seat.specs.declared.Seat.{Seat}
-use Rattle.seat.proofs.Sound.{sound-says}
+use Rattle.seat.proofs.Sound.{sound_says}
 
 -- ---- part by part
 
-pub raised-is-sent : (seat : Seat) (kind : Kind) → raisedBy kind seat.past seat.barrier ≡ barrierSent seat kind
-raised-is-sent seat Ordinary = refl
-raised-is-sent seat Causal = refl
+pub raised_is_sent : (seat : Seat) (kind : Kind) → raised_by kind seat.past seat.barrier ≡ barrier_sent seat kind
+raised_is_sent seat Ordinary = refl
+raised_is_sent seat Causal = refl
 
-pub raised-is-after : (seat : Seat) (kind : Kind) (past : List ℕ) → past ≡ pastSent seat → raisedBy kind past seat.barrier ≡ barrierAfter seat kind
-raised-is-after seat Ordinary past is-past = refl
-raised-is-after seat Causal past is-past = is-past
+pub raised_is_after : (seat : Seat) (kind : Kind) (past : List ℕ) → past ≡ past_sent seat → raised_by kind past seat.barrier ≡ barrier_after seat kind
+raised_is_after seat Ordinary past is-past = refl
+raised_is_after seat Causal past is-past = is-past
 
 module _ (seat : Seat) (kind : Kind) where
   -- the state that is built of its parts
-  pub sent-seat-is : (past barrier : List ℕ) → past ≡ pastSent seat → barrier ≡ barrierAfter seat kind
-      → ◌≡◌ {A = Seat} (record { n = seat.n; own = seat.own; past = past; barrier = barrier; run = seat.run; ahead = seat.ahead }) (sentSeat seat kind)
-  unfolding sentSeat
-  sent-seat-is past barrier is-past is-barrier = rw (is-past, is-barrier)
+  pub sent_seat_is : (past barrier : List ℕ) → past ≡ past_sent seat → barrier ≡ barrier_after seat kind
+      → ◌≡◌ {A = Seat} (record { n = seat.n; own = seat.own; past = past; barrier = barrier; run = seat.run; ahead = seat.ahead }) (sent_seat seat kind)
+  unfolding sent_seat
+  sent_seat_is past barrier is-past is-barrier = rw (is-past, is-barrier)
 
-  pub sending-keeps-seats : (sentSeat seat kind).n ≡ seat.n
-  unfolding sentSeat
-  sending-keeps-seats = refl
+  pub sending_keeps_seats : (sent_seat seat kind).n ≡ seat.n
+  unfolding sent_seat
+  sending_keeps_seats = refl
 
-  pub sending-keeps-own : (sentSeat seat kind).own ≡ seat.own
-  unfolding sentSeat
-  sending-keeps-own = refl
+  pub sending_keeps_own : (sent_seat seat kind).own ≡ seat.own
+  unfolding sent_seat
+  sending_keeps_own = refl
 
-  pub sending-sets-past : (sentSeat seat kind).past ≡ pastSent seat
-  unfolding sentSeat
-  sending-sets-past = refl
+  pub sending_sets_past : (sent_seat seat kind).past ≡ past_sent seat
+  unfolding sent_seat
+  sending_sets_past = refl
 
-  pub sending-sets-barrier : (sentSeat seat kind).barrier ≡ barrierAfter seat kind
-  unfolding sentSeat
-  sending-sets-barrier = refl
+  pub sending_sets_barrier : (sent_seat seat kind).barrier ≡ barrier_after seat kind
+  unfolding sent_seat
+  sending_sets_barrier = refl
 
-  pub sending-keeps-windows : (k : ℕ) → windowAt (sentSeat seat kind) k ≡ windowAt seat k
-  unfolding sentSeat
-  sending-keeps-windows k = refl
+  pub sending_keeps_windows : (k : ℕ) → window_at (sent_seat seat kind) k ≡ window_at seat k
+  unfolding sent_seat
+  sending_keeps_windows k = refl
 
 -- ---- the new past
 
-pub other-counts-stay : (seat : Seat) (k : ℕ) → (k ≡ seat.own.0 - 1 → ⊥) → get_or (pastSent seat) k 0 ≡ get_or seat.past k 0
-other-counts-stay seat k other = get_or-set_other seat.past (seat.own.0 - 1) k (ownCount seat + 1) 0 other
+pub other_counts_stay : (seat : Seat) (k : ℕ) → (k ≡ seat.own.0 - 1 → ⊥) → get_or (past_sent seat) k 0 ≡ get_or seat.past k 0
+other_counts_stay seat k other = get_or-set_other seat.past (seat.own.0 - 1) k (own_count seat + 1) 0 other
 
-module _ (seat : Seat) (sound : soundState seat ≡ true) (held : Held seat) where
-  pub own-count-rises : entry (pastSent seat) seat.own ≡ ownCount seat + 1
-  own-count-rises =
-      let s = sound-says seat sound in
-      get_or-set_same seat.past (seat.own.0 - 1) (ownCount seat + 1) 0 (omega (arith, held.past-long))
+module _ (seat : Seat) (sound : sound_state seat ≡ true) (held : Held seat) where
+  pub own_count_rises : entry (past_sent seat) seat.own ≡ own_count seat + 1
+  own_count_rises =
+      let s = sound_says seat sound in
+      get_or-set_same seat.past (seat.own.0 - 1) (own_count seat + 1) 0 (omega (arith, held.past_long))
 
-  pub no-count-falls : (k : ℕ) → get_or seat.past k 0 ≤ get_or (pastSent seat) k 0
-  no-count-falls k =
+  pub no_count_falls : (k : ℕ) → get_or seat.past k 0 ≤ get_or (past_sent seat) k 0
+  no_count_falls k =
       elim (ℕ_discrete k (seat.own.0 - 1)) [
-        | yes here ↦ rw here (omega (arith, own-count-rises))
-        | no other ↦ omega (arith, other-counts-stay seat k other)
+        | yes here ↦ rw here (omega (arith, own_count_rises))
+        | no other ↦ omega (arith, other_counts_stay seat k other)
       ]
 
-  pub past-sent-is-zero-above : (k : ℕ) → seat.n ≤ k → k < 16 → get_or (pastSent seat) k 0 ≡ 0
-  past-sent-is-zero-above k h b =
-      let s = sound-says seat sound in
-      other-counts-stay seat k (λ e. omega arith) ∙ s.past-above k h b
+  pub past_sent_is_zero_above : (k : ℕ) → seat.n ≤ k → k < 16 → get_or (past_sent seat) k 0 ≡ 0
+  past_sent_is_zero_above k h b =
+      let s = sound_says seat sound in
+      other_counts_stay seat k (λ e. omega arith) ∙ s.past_above k h b
 
-  pub past-sent-is-counts : ownCount seat < 65535 → Counts (pastSent seat)
-  past-sent-is-counts not_full =
+  pub past_sent_is_counts : own_count seat < 65535 → Counts (past_sent seat)
+  past_sent_is_counts not_full =
       record {
-        long = length-set seat.past (seat.own.0 - 1) (ownCount seat + 1) ∙ held.past-long;
+        long = length-set seat.past (seat.own.0 - 1) (own_count seat + 1) ∙ held.past_long;
         fits = λ k.
             elim (ℕ_discrete k (seat.own.0 - 1)) [
-              | yes here ↦ rw here (omega (arith, own-count-rises))
-              | no other ↦ omega (arith, other-counts-stay seat k other, held.past_fits k)
+              | yes here ↦ rw here (omega (arith, own_count_rises))
+              | no other ↦ omega (arith, other_counts_stay seat k other, held.past_fits k)
             ];
       }

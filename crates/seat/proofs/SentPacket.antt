@@ -8,106 +8,106 @@ use lib.ListN.{length, get_or}
 use lib.Seq.{sets, set-set, set-get_or}
 use Rattle.answers.specs.Answers.{editNo}
 use Rattle.vectors.specs.Vectors.{entry, Counts}
-use Rattle.vectors.proofs.Tests.{zero-above-of}
-use Rattle.packet.specs.Packet.{packetLength, less_one}
+use Rattle.vectors.proofs.Tests.{zero_above_of}
+use Rattle.packet.specs.Packet.{packet_length, less_one}
 use Rattle.packet.specs.Reading.{message, read_of, body_of}
-use Rattle.packet.specs.Writing.{packetOf, writable, editOf, at_start}
+use Rattle.packet.specs.Writing.{packet_of, writable, edit_of, at_start}
 use Rattle.packet.specs.declared.Kind.{Kind}
 use Rattle.packet.specs.declared.Kind.TheVariants.{Ordinary, Causal}
 use Rattle.packet.specs.declared.Header.{Header}
-use Rattle.packet.proofs.Formed.{Ordered, vectors-pass}
-use Rattle.packet.proofs.Laid.{at-start}
-use Rattle.packet.proofs.RoundTrip.{packet-reads-back, packet-body-back}
-use Rattle.packet.proofs.Writable.{Writable, writable-holds}
-use Rattle.seat.specs.State.{headerOf, ownCount, soundState, SoundState, Held}
-use Rattle.seat.specs.Sending.{barrierSent, pastSent, packetSent}
+use Rattle.packet.proofs.Formed.{Ordered, vectors_pass}
+use Rattle.packet.proofs.Laid.{at_start_lem}
+use Rattle.packet.proofs.RoundTrip.{packet_reads_back, packet_body_back}
+use Rattle.packet.proofs.Writable.{Writable, writable_holds}
+use Rattle.seat.specs.State.{header_of, own_count, sound_state, SoundState, Held}
+use Rattle.seat.specs.Sending.{barrier_sent, past_sent, packet_sent}
 use Rattle.seat.specs.declared.Seat.{Seat}
-use Rattle.seat.proofs.Sound.{sound-says, sound-is-in-range}
-use Rattle.seat.proofs.Sent.{own-count-rises, no-count-falls, past-sent-is-zero-above, past-sent-is-counts}
+use Rattle.seat.proofs.Sound.{sound_says, sound_is_in_range}
+use Rattle.seat.proofs.Sent.{own_count_rises, no_count_falls, past_sent_is_zero_above, past_sent_is_counts}
 
-module _ (seat : Seat) (sound : soundState seat ≡ true) (held : Held seat) where
+module _ (seat : Seat) (sound : sound_state seat ≡ true) (held : Held seat) where
   was : SoundState seat
-  was = sound-says seat sound
+  was = sound_says seat sound
 
   -- ---- the barrier that the packet carries
 
-  pub barrier-sent-is-counts : (kind : Kind) → Counts (barrierSent seat kind)
-  barrier-sent-is-counts Ordinary = record { long = held.barrier-long; fits = held.barrier-fits }
-  barrier-sent-is-counts Causal = record { long = held.past-long; fits = held.past_fits }
+  pub barrier_sent_is_counts : (kind : Kind) → Counts (barrier_sent seat kind)
+  barrier_sent_is_counts Ordinary = record { long = held.barrier_long; fits = held.barrier_fits }
+  barrier_sent_is_counts Causal = record { long = held.past_long; fits = held.past_fits }
 
-  barrier-sent-above : (kind : Kind) (k : ℕ) → seat.n ≤ k → k < 16 → get_or (barrierSent seat kind) k 0 ≡ 0
-  barrier-sent-above Ordinary = was.barrier-above
-  barrier-sent-above Causal = was.past-above
+  barrier_sent_above : (kind : Kind) (k : ℕ) → seat.n ≤ k → k < 16 → get_or (barrier_sent seat kind) k 0 ≡ 0
+  barrier_sent_above Ordinary = was.barrier_above
+  barrier_sent_above Causal = was.past_above
 
-  pub barrier-sent-within-past : (kind : Kind) (k : ℕ) → k < 16 → get_or (barrierSent seat kind) k 0 ≤ get_or seat.past k 0
-  barrier-sent-within-past Ordinary = was.barrier-within
-  barrier-sent-within-past Causal = λ k b. omega arith
+  pub barrier_sent_within_past : (kind : Kind) (k : ℕ) → k < 16 → get_or (barrier_sent seat kind) k 0 ≤ get_or seat.past k 0
+  barrier_sent_within_past Ordinary = was.barrier_within
+  barrier_sent_within_past Causal = λ k b. omega arith
 
   -- a causal packet's barrier is its past less 1 at the sender
-  past-less-one : seat.past ≡ less_one (pastSent seat) seat.own
-  past-less-one =
+  past_less_one : seat.past ≡ less_one (past_sent seat) seat.own
+  past_less_one =
       let at = seat.own.0 - 1 in
-      let one_less : entry (pastSent seat) seat.own - 1 ≡ ownCount seat = omega (arith, own-count-rises seat sound held) in
-      sym (rw one_less (set-set seat.past at (ownCount seat + 1) (ownCount seat) ∙ set-get_or seat.past at 0))
+      let one_less : entry (past_sent seat) seat.own - 1 ≡ own_count seat = omega (arith, own_count_rises seat sound held) in
+      sym (rw one_less (set-set seat.past at (own_count seat + 1) (own_count seat) ∙ set-get_or seat.past at 0))
 
-  causal-barrier : (kind : Kind) → kind ≡ Causal → barrierSent seat kind ≡ less_one (pastSent seat) seat.own
-  causal-barrier Causal e = past-less-one
-  causal-barrier Ordinary e = let z : ◌≡◌ {A = ℕ} 0 1 = cc in absurd (omega arith)
+  causal_barrier : (kind : Kind) → kind ≡ Causal → barrier_sent seat kind ≡ less_one (past_sent seat) seat.own
+  causal_barrier Causal e = past_less_one
+  causal_barrier Ordinary e = let z : ◌≡◌ {A = ℕ} 0 1 = cc in absurd (omega arith)
 
-  sent-is-ordered : (kind : Kind) → Ordered kind seat.own (pastSent seat) (barrierSent seat kind)
-  sent-is-ordered kind =
+  sent_is_ordered : (kind : Kind) → Ordered kind seat.own (past_sent seat) (barrier_sent seat kind)
+  sent_is_ordered kind =
       let s = was in
-      let within = barrier-sent-within-past kind (seat.own.0 - 1) (omega arith) in
+      let within = barrier_sent_within_past kind (seat.own.0 - 1) (omega arith) in
       record {
-        within-past = λ k b. omega (arith, barrier-sent-within-past kind k b, no-count-falls seat sound held k);
-        smaller = omega (arith, own-count-rises seat sound held);
-        causal = causal-barrier kind;
+        within_past = λ k b. omega (arith, barrier_sent_within_past kind k b, no_count_falls seat sound held k);
+        smaller = omega (arith, own_count_rises seat sound held);
+        causal = causal_barrier kind;
       }
 
   -- ---- what is sent can be written
 
-  sent-is-writable : (kind : Kind) → Writable kind (headerOf seat) (pastSent seat) (barrierSent seat kind)
-  sent-is-writable kind =
+  sent_is_writable : (kind : Kind) → Writable kind (header_of seat) (past_sent seat) (barrier_sent seat kind)
+  sent_is_writable kind =
       record {
-        range = sound-is-in-range seat sound;
-        points = vectors-pass seat.own (pastSent seat) (barrierSent seat kind) kind (sent-is-ordered kind);
-        past-zero = zero-above-of seat.n (pastSent seat) (past-sent-is-zero-above seat sound held);
-        barrier-zero = zero-above-of seat.n (barrierSent seat kind) (barrier-sent-above kind);
+        range = sound_is_in_range seat sound;
+        points = vectors_pass seat.own (past_sent seat) (barrier_sent seat kind) kind (sent_is_ordered kind);
+        past_zero = zero_above_of seat.n (past_sent seat) (past_sent_is_zero_above seat sound held);
+        barrier_zero = zero_above_of seat.n (barrier_sent seat kind) (barrier_sent_above kind);
       }
 
-  pub sent-packet-can-be-written : (kind : Kind) → writable kind (headerOf seat) (pastSent seat) (barrierSent seat kind) ≡ true
-  sent-packet-can-be-written kind = writable-holds kind (headerOf seat) (pastSent seat) (barrierSent seat kind) (sent-is-writable kind)
+  pub sent_packet_can_be_written : (kind : Kind) → writable kind (header_of seat) (past_sent seat) (barrier_sent seat kind) ≡ true
+  sent_packet_can_be_written kind = writable_holds kind (header_of seat) (past_sent seat) (barrier_sent seat kind) (sent_is_writable kind)
 
   -- ---- the edit that is answered
 
-  pub sent-edit-is : (body : List ℕ) (count : ℕ) → count ≡ ownCount seat
-      → editOf (headerOf seat) (pastSent seat) body ≡ record { sender = seat.own; number = editNo (count + 1); length = packetLength seat.n (length body) }
-  sent-edit-is body count is =
-      let number : entry (pastSent seat) seat.own ≡ count + 1 = own-count-rises seat sound held ∙ ap (λ (k : ℕ). k + 1) (sym is) in
-      (λ i. record { sender = seat.own; number = editNo (number i); length = packetLength seat.n (length body) })
+  pub sent_edit_is : (body : List ℕ) (count : ℕ) → count ≡ own_count seat
+      → edit_of (header_of seat) (past_sent seat) body ≡ record { sender = seat.own; number = editNo (count + 1); length = packet_length seat.n (length body) }
+  sent_edit_is body count is =
+      let number : entry (past_sent seat) seat.own ≡ count + 1 = own_count_rises seat sound held ∙ ap (λ (k : ℕ). k + 1) (sym is) in
+      (λ i. record { sender = seat.own; number = editNo (number i); length = packet_length seat.n (length body) })
 
-  module _ (not_full : ownCount seat < 65535) where
+  module _ (not_full : own_count seat < 65535) where
     -- ---- it stands at the output's start
 
-    pub sent-packet-is-put : (kind wished : Kind) (header : Header) (past barrier body out after : List ℕ) → kind ≡ wished → header ≡ headerOf seat → past ≡ pastSent seat
-        → barrier ≡ barrierSent seat kind → after ≡ sets out 0 (packetOf kind header past barrier body) → packetLength seat.n (length body) ≤ length out
-        → after ≡ at_start (packetSent seat wished body) out
-    sent-packet-is-put kind wished header past barrier body out after is-kind is-header is-past is-barrier is-after room =
+    pub sent_packet_is_put : (kind wished : Kind) (header : Header) (past barrier body out after : List ℕ) → kind ≡ wished → header ≡ header_of seat → past ≡ past_sent seat
+        → barrier ≡ barrier_sent seat kind → after ≡ sets out 0 (packet_of kind header past barrier body) → packet_length seat.n (length body) ≤ length out
+        → after ≡ at_start (packet_sent seat wished body) out
+    sent_packet_is_put kind wished header past barrier body out after is-kind is-header is-past is-barrier is-after room =
         let s = was in
-        let past-long = (past-sent-is-counts seat sound held not_full).long in
-        let barrier-long = (barrier-sent-is-counts wished).long in
+        let past_long = (past_sent_is_counts seat sound held not_full).long in
+        let barrier_long = (barrier_sent_is_counts wished).long in
         rw (is-after, is-barrier, is-header, is-past, is-kind)
-        (at-start wished (headerOf seat) (pastSent seat) (barrierSent seat wished) body (omega arith) (omega arith) out room)
+        (at_start_lem wished (header_of seat) (past_sent seat) (barrier_sent seat wished) body (omega arith) (omega arith) out room)
 
     -- ---- it reads back
 
-    pub sent-packet-reads-back : (kind : Kind) (body : List ℕ) → length body ≤ 200
-        → read_of (packetSent seat kind body) ≡ message kind (headerOf seat) (pastSent seat) (barrierSent seat kind)
-    sent-packet-reads-back kind body short =
-        packet-reads-back kind (headerOf seat) (pastSent seat) (barrierSent seat kind) body (past-sent-is-counts seat sound held not_full) (barrier-sent-is-counts kind)
-        (sent-is-writable kind) short
+    pub sent_packet_reads_back : (kind : Kind) (body : List ℕ) → length body ≤ 200
+        → read_of (packet_sent seat kind body) ≡ message kind (header_of seat) (past_sent seat) (barrier_sent seat kind)
+    sent_packet_reads_back kind body short =
+        packet_reads_back kind (header_of seat) (past_sent seat) (barrier_sent seat kind) body (past_sent_is_counts seat sound held not_full) (barrier_sent_is_counts kind)
+        (sent_is_writable kind) short
 
-    pub sent-packet-body-back : (kind : Kind) (body : List ℕ) → length body ≤ 200 → body_of (packetSent seat kind body) ≡ body
-    sent-packet-body-back kind body short =
-        packet-body-back kind (headerOf seat) (pastSent seat) (barrierSent seat kind) body (past-sent-is-counts seat sound held not_full) (barrier-sent-is-counts kind)
-        (sent-is-writable kind) short
+    pub sent_packet_body_back : (kind : Kind) (body : List ℕ) → length body ≤ 200 → body_of (packet_sent seat kind body) ≡ body
+    sent_packet_body_back kind body short =
+        packet_body_back kind (header_of seat) (past_sent seat) (barrier_sent seat kind) body (past_sent_is_counts seat sound held not_full) (barrier_sent_is_counts kind)
+        (sent_is_writable kind) short

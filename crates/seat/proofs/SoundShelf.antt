@@ -8,127 +8,127 @@ use native.Mathlib.Omega.{arith}
 use lib.Dec.{eqb}
 use borrow.Author.Tests.{eq-eqb, eqb-true, le-ltb, ltb-false, not-true}
 use Rattle.vectors.specs.Vectors.{all, entry}
-use Rattle.vectors.proofs.Every.{and_both, all-at, all_of}
-use Rattle.packet.specs.Packet.{seatsOf, senderOf, kind_of, past_of, firstBadPoint}
-use Rattle.packet.specs.Reading.{headed, headerOf, read_of}
+use Rattle.vectors.proofs.Every.{and_both, all_at, all_of}
+use Rattle.packet.specs.Packet.{seats_of, sender_of, kind_of, past_of, first_bad_point}
+use Rattle.packet.specs.Reading.{headed, header_of, read_of}
 use Rattle.packet.specs.declared.Heading.{Heading}
 use Rattle.packet.specs.declared.ReadAnswer.TheVariants.{Packet}
-use Rattle.packet.proofs.Told.{read-formed, read-refused}
-use Rattle.shelf.specs.Shelf.{slots, wholeSlots, slot_at, isFree}
-use Rattle.shelf.proofs.Slots.{length-slotAt}
-use Rattle.seat.specs.State.{ownCount}
-use Rattle.seat.specs.Stock.{packetAt, number_of, otherSession, aboveOwnCount, isHanded, tooFarAhead, passesAs, passes, soundSlot, onSlots, distinct, soundSlots, soundShelf, Passing, SoundShelf}
+use Rattle.packet.proofs.Told.{read_formed, read_refused}
+use Rattle.shelf.specs.Shelf.{slots, whole_slots, slot_at, is_free}
+use Rattle.shelf.proofs.Slots.{length_slot_at}
+use Rattle.seat.specs.State.{own_count}
+use Rattle.seat.specs.Stock.{packet_at, number_of, other_session, above_own_count, is_handed, too_far_ahead, passes_as, passes, sound_slot, on_slots, distinct, sound_slots, sound_shelf, Passing, SoundShelf}
 use Rattle.seat.specs.Survey.{Surveyed}
 use Rattle.seat.specs.declared.Seat.{Seat}
 use Rattle.seat.specs.declared.stock.Stock.{Stock}
-use Rattle.seat.proofs.InSlot.{well-formed-fits, found-packet-stands}
-use Rattle.seat.proofs.SlotBySlot.{false-unless, isNew}
-use Rattle.seat.proofs.OnSlots.{edit-is-its-numbers, its-numbers-are-the-edit, on-slots-is-on-one, on-none-is-not-on-slots}
+use Rattle.seat.proofs.InSlot.{well_formed_fits, found_packet_stands}
+use Rattle.seat.proofs.SlotBySlot.{false_unless, is_new}
+use Rattle.seat.proofs.OnSlots.{edit_is_its_numbers, its_numbers_are_the_edit, on_slots_is_on_one, on_none_is_not_on_slots}
 
 -- ---- one packet
 
 module _ (seat : Seat) (packet : List ℕ) where
   abbrev heading : Heading
-  heading = headed (kind_of packet) (headerOf packet)
+  heading = headed (kind_of packet) (header_of packet)
 
-  read-passes : firstBadPoint packet ≡ 0 → passes seat (read_of packet) ≡ passesAs seat (past_of packet) (Packet heading)
+  read_passes : first_bad_point packet ≡ 0 → passes seat (read_of packet) ≡ passes_as seat (past_of packet) (Packet heading)
   unfolding passes
-  read-passes well-formed = rw (read-formed packet well-formed)
+  read_passes is_well_formed = rw (read_formed packet is_well_formed)
 
-  passing-facts : firstBadPoint packet ≡ 0 → passesAs seat (past_of packet) (Packet heading) ≡ true → Passing seat packet
-  passing-facts well-formed passed =
-      let session = otherSession seat heading in
-      let above = aboveOwnCount seat (past_of packet) in
-      let repeated = isHanded seat (senderOf packet) (number_of packet) in
-      let far = tooFarAhead seat (senderOf packet) (number_of packet) in
+  passing_facts : first_bad_point packet ≡ 0 → passes_as seat (past_of packet) (Packet heading) ≡ true → Passing seat packet
+  passing_facts is_well_formed passed =
+      let session = other_session seat heading in
+      let above = above_own_count seat (past_of packet) in
+      let repeated = is_handed seat (sender_of packet) (number_of packet) in
+      let far = too_far_ahead seat (sender_of packet) (number_of packet) in
       let to-far = and_both (not session && not above && not repeated) (not far) passed in
       let to-repeated = and_both (not session && not above) (not repeated) to-far.0 in
       let to-above = and_both (not session) (not above) to-repeated.0 in
       record {
-        well-formed = well-formed;
-        same-session = eqb-true (seatsOf packet) seat.n (sym (not-not (eqb (seatsOf packet) seat.n)) ∙ to-above.0);
-        within-own-count = ltb-false (ownCount seat) (entry (past_of packet) seat.own) (not-true above to-above.1);
-        not-handed = not-true repeated to-repeated.1;
-        near = ltb-false (entry seat.run (senderOf packet) + 64) (number_of packet) (not-true far to-far.1);
+        is_well_formed = is_well_formed;
+        same_session = eqb-true (seats_of packet) seat.n (sym (not-not (eqb (seats_of packet) seat.n)) ∙ to-above.0);
+        within_own_count = ltb-false (own_count seat) (entry (past_of packet) seat.own) (not-true above to-above.1);
+        not_handed = not-true repeated to-repeated.1;
+        near = ltb-false (entry seat.run (sender_of packet) + 64) (number_of packet) (not-true far to-far.1);
       }
 
-  pub passes-says : passes seat (read_of packet) ≡ true → Passing seat packet
+  pub passes_says : passes seat (read_of packet) ≡ true → Passing seat packet
   unfolding passes
-  passes-says passed =
-      elim (ℕ_discrete (firstBadPoint packet) 0) [
-        | yes well-formed ↦ passing-facts well-formed (sym (read-passes well-formed) ∙ passed)
-        | no bad ↦ absurd (true≢false (sym passed ∙ rw (read-refused packet bad)))
+  passes_says passed =
+      elim (ℕ_discrete (first_bad_point packet) 0) [
+        | yes is_well_formed ↦ passing_facts is_well_formed (sym (read_passes is_well_formed) ∙ passed)
+        | no bad ↦ absurd (true≢false (sym passed ∙ rw (read_refused packet bad)))
       ]
 
-  pub passing-passes : Passing seat packet → passes seat (read_of packet) ≡ true
-  passing-passes facts =
-      let session = eq-eqb (seatsOf packet) seat.n facts.same-session in
-      let above = le-ltb (ownCount seat) (entry (past_of packet) seat.own) facts.within-own-count in
-      let far = le-ltb (entry seat.run (senderOf packet) + 64) (number_of packet) facts.near in
-      read-passes facts.well-formed ∙ simp (session, above, facts.not-handed, far)
+  pub passing_passes : Passing seat packet → passes seat (read_of packet) ≡ true
+  passing_passes facts =
+      let session = eq-eqb (seats_of packet) seat.n facts.same_session in
+      let above = le-ltb (own_count seat) (entry (past_of packet) seat.own) facts.within_own_count in
+      let far = le-ltb (entry seat.run (sender_of packet) + 64) (number_of packet) facts.near in
+      read_passes facts.is_well_formed ∙ simp (session, above, facts.not_handed, far)
 
 -- ---- the shelf
 
 module _ (seat : Seat) (shelf : List ℕ) where
-  pub sound-shelf-says : soundShelf seat shelf ≡ true → SoundShelf seat shelf
-  unfolding soundShelf soundSlots distinct
-  sound-shelf-says sound =
+  pub sound_shelf_says : sound_shelf seat shelf ≡ true → SoundShelf seat shelf
+  unfolding sound_shelf sound_slots distinct
+  sound_shelf_says sound =
       record {
         whole = both.0;
         passing = passing;
-        stands = λ i h used. found-packet-stands (slot_at shelf i) (passing i h used).well-formed (length-slotAt shelf i h);
-        short = λ i h used. well-formed-fits (packetAt shelf i) (passing i h used).well-formed;
+        stands = λ i h used. found_packet_stands (slot_at shelf i) (passing i h used).is_well_formed (length_slot_at shelf i h);
+        short = λ i h used. well_formed_fits (packet_at shelf i) (passing i h used).is_well_formed;
         apart = apart;
       }
     where
-      both : (wholeSlots shelf ≡ true) × (soundSlots (slots shelf) seat shelf ≡ true)
-      both = and_both (wholeSlots shelf) (soundSlots (slots shelf) seat shelf) sound
+      both : (whole_slots shelf ≡ true) × (sound_slots (slots shelf) seat shelf ≡ true)
+      both = and_both (whole_slots shelf) (sound_slots (slots shelf) seat shelf) sound
 
-      slot-tests : (all (slots shelf) (soundSlot seat shelf) ≡ true) × (all (slots shelf) (isNew shelf) ≡ true)
-      slot-tests = and_both (all (slots shelf) (soundSlot seat shelf)) (all (slots shelf) (isNew shelf)) both.1
+      slot_tests : (all (slots shelf) (sound_slot seat shelf) ≡ true) × (all (slots shelf) (is_new shelf) ≡ true)
+      slot_tests = and_both (all (slots shelf) (sound_slot seat shelf)) (all (slots shelf) (is_new shelf)) both.1
 
-      passing : (i : ℕ) → i < slots shelf → isFree shelf i ≡ false → Passing seat (packetAt shelf i)
-      passing i h used = passes-says seat (packetAt shelf i) (rw used at (all-at (soundSlot seat shelf) (slots shelf) i slot-tests.0 h))
+      passing : (i : ℕ) → i < slots shelf → is_free shelf i ≡ false → Passing seat (packet_at shelf i)
+      passing i h used = passes_says seat (packet_at shelf i) (rw used at (all_at (sound_slot seat shelf) (slots shelf) i slot_tests.0 h))
 
-      apart : (i j : ℕ) → i < j → j < slots shelf → isFree shelf i ≡ false → isFree shelf j ≡ false
-          → (senderOf (packetAt shelf i)).0 ≡ (senderOf (packetAt shelf j)).0 → number_of (packetAt shelf i) ≡ number_of (packetAt shelf j) → ⊥
+      apart : (i j : ℕ) → i < j → j < slots shelf → is_free shelf i ≡ false → is_free shelf j ≡ false
+          → (sender_of (packet_at shelf i)).0 ≡ (sender_of (packet_at shelf j)).0 → number_of (packet_at shelf i) ≡ number_of (packet_at shelf j) → ⊥
       apart i j before h used also s m =
-          let new : not (onSlots j shelf (senderOf (packetAt shelf j)) (number_of (packetAt shelf j))) ≡ true = rw also at (all-at (isNew shelf) (slots shelf) j slot-tests.1 h) in
-          on-none-is-not-on-slots j shelf (senderOf (packetAt shelf j)) (number_of (packetAt shelf j)) (not-true _ new) i before used
-          (its-numbers-are-the-edit (packetAt shelf i) (senderOf (packetAt shelf j)) (number_of (packetAt shelf j)) s m)
+          let new : not (on_slots j shelf (sender_of (packet_at shelf j)) (number_of (packet_at shelf j))) ≡ true = rw also at (all_at (is_new shelf) (slots shelf) j slot_tests.1 h) in
+          on_none_is_not_on_slots j shelf (sender_of (packet_at shelf j)) (number_of (packet_at shelf j)) (not-true _ new) i before used
+          (its_numbers_are_the_edit (packet_at shelf i) (sender_of (packet_at shelf j)) (number_of (packet_at shelf j)) s m)
 
   -- whole slots, passing packets and no two the same are enough
-  module _ (whole : wholeSlots shelf ≡ true) (passing : (i : ℕ) → i < slots shelf → isFree shelf i ≡ false → Passing seat (packetAt shelf i))
-      (apart : (i j : ℕ) → i < j → j < slots shelf → isFree shelf i ≡ false → isFree shelf j ≡ false
-      → (senderOf (packetAt shelf i)).0 ≡ (senderOf (packetAt shelf j)).0 → number_of (packetAt shelf i) ≡ number_of (packetAt shelf j) → ⊥) where
-    slot-passes : (i : ℕ) → i < slots shelf → (free : Bool) → isFree shelf i ≡ free → (free || passes seat (read_of (packetAt shelf i))) ≡ true
-    slot-passes i h true is = refl
-    slot-passes i h false is = passing-passes seat (packetAt shelf i) (passing i h is)
+  module _ (whole : whole_slots shelf ≡ true) (passing : (i : ℕ) → i < slots shelf → is_free shelf i ≡ false → Passing seat (packet_at shelf i))
+      (apart : (i j : ℕ) → i < j → j < slots shelf → is_free shelf i ≡ false → is_free shelf j ≡ false
+      → (sender_of (packet_at shelf i)).0 ≡ (sender_of (packet_at shelf j)).0 → number_of (packet_at shelf i) ≡ number_of (packet_at shelf j) → ⊥) where
+    slot_passes : (i : ℕ) → i < slots shelf → (free : Bool) → is_free shelf i ≡ free → (free || passes seat (read_of (packet_at shelf i))) ≡ true
+    slot_passes i h true is = refl
+    slot_passes i h false is = passing_passes seat (packet_at shelf i) (passing i h is)
 
-    slot-is-new : (j : ℕ) → j < slots shelf → (free : Bool) → isFree shelf j ≡ free
-        → (free || not (onSlots j shelf (senderOf (packetAt shelf j)) (number_of (packetAt shelf j)))) ≡ true
-    slot-is-new j h true is = refl
-    slot-is-new j h false is =
+    slot_is_new : (j : ℕ) → j < slots shelf → (free : Bool) → is_free shelf j ≡ free
+        → (free || not (on_slots j shelf (sender_of (packet_at shelf j)) (number_of (packet_at shelf j)))) ≡ true
+    slot_is_new j h true is = refl
+    slot_is_new j h false is =
         ap not
-        (false-unless (onSlots j shelf (senderOf (packetAt shelf j)) (number_of (packetAt shelf j)))
+        (false_unless (on_slots j shelf (sender_of (packet_at shelf j)) (number_of (packet_at shelf j)))
         (λ on.
-        let one = on-slots-is-on-one j shelf (senderOf (packetAt shelf j)) (number_of (packetAt shelf j)) on in
-        let same = edit-is-its-numbers (packetAt shelf one.0) (senderOf (packetAt shelf j)) (number_of (packetAt shelf j)) one.3 in
+        let one = on_slots_is_on_one j shelf (sender_of (packet_at shelf j)) (number_of (packet_at shelf j)) on in
+        let same = edit_is_its_numbers (packet_at shelf one.0) (sender_of (packet_at shelf j)) (number_of (packet_at shelf j)) one.3 in
         apart one.0 j one.1 h one.2 is same.0 same.1))
 
-    pub shelf-is-sound : soundShelf seat shelf ≡ true
-    unfolding soundShelf soundSlots distinct
-    shelf-is-sound =
-        rw (whole, all_of (soundSlot seat shelf) (slots shelf) (λ i h. slot-passes i h (isFree shelf i) refl))
-        (all_of (isNew shelf) (slots shelf) (λ j h. slot-is-new j h (isFree shelf j) refl))
+    pub shelf_is_sound : sound_shelf seat shelf ≡ true
+    unfolding sound_shelf sound_slots distinct
+    shelf_is_sound =
+        rw (whole, all_of (sound_slot seat shelf) (slots shelf) (λ i h. slot_passes i h (is_free shelf i) refl))
+        (all_of (is_new shelf) (slots shelf) (λ j h. slot_is_new j h (is_free shelf j) refl))
 
-  pub sound-shelf-passes : SoundShelf seat shelf → soundShelf seat shelf ≡ true
-  sound-shelf-passes facts = shelf-is-sound facts.whole facts.passing facts.apart
+  pub sound_shelf_passes : SoundShelf seat shelf → sound_shelf seat shelf ≡ true
+  sound_shelf_passes facts = shelf_is_sound facts.whole facts.passing facts.apart
 
   -- slots in use with the same edit are the same slot
-  pub same-edit-same-slot : SoundShelf seat shelf → (i j : ℕ) → i < slots shelf → j < slots shelf → isFree shelf i ≡ false → isFree shelf j ≡ false
-      → (senderOf (packetAt shelf i)).0 ≡ (senderOf (packetAt shelf j)).0 → number_of (packetAt shelf i) ≡ number_of (packetAt shelf j) → i ≡ j
-  same-edit-same-slot facts i j h l used also s m =
+  pub same_edit_same_slot : SoundShelf seat shelf → (i j : ℕ) → i < slots shelf → j < slots shelf → is_free shelf i ≡ false → is_free shelf j ≡ false
+      → (sender_of (packet_at shelf i)).0 ≡ (sender_of (packet_at shelf j)).0 → number_of (packet_at shelf i) ≡ number_of (packet_at shelf j) → i ≡ j
+  same_edit_same_slot facts i j h l used also s m =
       elim (dec_lt i j) [
         | yes before ↦ absurd (facts.apart i j before l used also s m)
         | no not-before ↦ elim (dec_lt j i) [
@@ -138,6 +138,6 @@ module _ (seat : Seat) (shelf : List ℕ) where
       ]
 
   -- what a look finds of soundness, beside the test of whole slots
-  pub look-tells-sound : (choosing : Bool) (stock : Stock) (whole : Bool) → Surveyed choosing seat shelf stock → whole ≡ wholeSlots shelf → (whole && stock.sound) ≡ soundShelf seat shelf
-  unfolding soundShelf
-  look-tells-sound choosing stock whole surveyed is_whole = ap₂ ◌&&◌ is_whole surveyed.sound-is
+  pub look_tells_sound : (choosing : Bool) (stock : Stock) (whole : Bool) → Surveyed choosing seat shelf stock → whole ≡ whole_slots shelf → (whole && stock.sound) ≡ sound_shelf seat shelf
+  unfolding sound_shelf
+  look_tells_sound choosing stock whole surveyed is_whole = ap₂ ◌&&◌ is_whole surveyed.sound_is

@@ -7,77 +7,77 @@ use Rattle.answers.specs.declared.Refusal.TheVariants.{NotSound, NotWellFormed, 
 use Rattle.answers.specs.declared.Answer.{Answer}
 use Rattle.answers.specs.declared.Answer.TheVariants.{Opened, Done, Shelved, NothingReady, Refused}
 use Rattle.vectors.specs.Vectors.{entry}
-use Rattle.packet.specs.Packet.{senderOf, kind_of, past_of, barrierOf, wellFormed}
-use Rattle.packet.specs.Reading.{headed, headerOf, body_of}
+use Rattle.packet.specs.Packet.{sender_of, kind_of, past_of, barrier_of, well_formed}
+use Rattle.packet.specs.Reading.{headed, header_of, body_of}
 use Rattle.packet.specs.declared.Heading.{Heading}
-use Rattle.shelf.specs.Shelf.{slots, slot_of, laid, lowestFree}
-use Rattle.seat.specs.State.{soundState}
-use Rattle.seat.specs.Stock.{number_of, otherSession, aboveOwnCount, isHanded, tooFarAhead, onShelf, soundShelf}
-use Rattle.seat.specs.HandingOver.{ready, handOver, barrierAbovePast}
-use Rattle.seat.specs.Sending.{seatAfter}
+use Rattle.shelf.specs.Shelf.{slots, slot_of, laid, lowest_free}
+use Rattle.seat.specs.State.{sound_state}
+use Rattle.seat.specs.Stock.{number_of, other_session, above_own_count, is_handed, too_far_ahead, on_shelf, sound_shelf}
+use Rattle.seat.specs.HandingOver.{ready, hand_over, barrier_above_past}
+use Rattle.seat.specs.Sending.{seat_after}
 use Rattle.seat.specs.declared.Seat.{Seat}
 use Rattle.seat.specs.declared.Stepped.{Stepped}
 
 -- A packet's heading.
-abbrev pub headingOf : List ℕ → Heading
-headingOf packet = headed (kind_of packet) (headerOf packet)
+abbrev pub heading_of : List ℕ → Heading
+heading_of packet = headed (kind_of packet) (header_of packet)
 
 -- State and shelf are sound.
-abbrev pub soundBoth : Seat → List ℕ → Bool
-soundBoth seat shelf = soundState seat && soundShelf seat shelf
+abbrev pub sound_both : Seat → List ℕ → Bool
+sound_both seat shelf = sound_state seat && sound_shelf seat shelf
 
 -- Refusals 15 to 18 of a packet that was read.
-unfoldable pub admissionRefusals : Seat → Heading → List ℕ → Bool → List (Refusal × Bool)
-admissionRefusals seat heading past repeated =
-    (OtherSession, otherSession seat heading)
-    ∷ (AboveOwnCount, aboveOwnCount seat past)
+unfoldable pub admission_refusals : Seat → Heading → List ℕ → Bool → List (Refusal × Bool)
+admission_refusals seat heading past repeated =
+    (OtherSession, other_session seat heading)
+    ∷ (AboveOwnCount, above_own_count seat past)
     ∷ (Repeated, repeated)
-    ∷ (TooFarAhead, tooFarAhead seat heading.sender (entry past heading.sender))
+    ∷ (TooFarAhead, too_far_ahead seat heading.sender (entry past heading.sender))
     ∷ []
 
 -- The number is already handed over, or on the shelf.
 abbrev pub repeats : Seat → List ℕ → List ℕ → Bool
 repeats seat shelf packet =
-    isHanded seat (senderOf packet) (number_of packet) || onShelf shelf (senderOf packet) (number_of packet)
+    is_handed seat (sender_of packet) (number_of packet) || on_shelf shelf (sender_of packet) (number_of packet)
 
 -- An arrival refuses in this order, ready or not.
-unfoldable pub arriveRefusals : Seat → List ℕ → List ℕ → List (Refusal × Bool)
-arriveRefusals seat shelf packet =
-    (NotSound, not (soundBoth seat shelf))
-    ∷ (NotWellFormed, not (wellFormed packet))
-    ∷ admissionRefusals seat (headingOf packet) (past_of packet) (repeats seat shelf packet)
+unfoldable pub arrive_refusals : Seat → List ℕ → List ℕ → List (Refusal × Bool)
+arrive_refusals seat shelf packet =
+    (NotSound, not (sound_both seat shelf))
+    ∷ (NotWellFormed, not (well_formed packet))
+    ∷ admission_refusals seat (heading_of packet) (past_of packet) (repeats seat shelf packet)
 
 -- The edit that is handed over, with its body's length.
-abbrev pub editHanded : List ℕ → Edit
-editHanded packet = record { sender = senderOf packet; number = editNo (number_of packet); length = length (body_of packet) }
+abbrev pub edit_handed : List ℕ → Edit
+edit_handed packet = record { sender = sender_of packet; number = editNo (number_of packet); length = length (body_of packet) }
 
 -- A ready arrival is handed over, another is put on the shelf.
-unfoldable pub readyAnswer : Seat → Heading → List ℕ → List ℕ → Edit → Answer
-readyAnswer seat heading past barrier edit =
-    first_of ((BarrierAbovePast, barrierAbovePast seat heading past barrier) ∷ []) (Done edit)
+unfoldable pub ready_answer : Seat → Heading → List ℕ → List ℕ → Edit → Answer
+ready_answer seat heading past barrier edit =
+    first_of ((BarrierAbovePast, barrier_above_past seat heading past barrier) ∷ []) (Done edit)
 
-unfoldable pub waitAnswer : List ℕ → Answer
-waitAnswer shelf = first_of ((ShelfFull, eqb (lowestFree shelf) (slots shelf)) ∷ []) Shelved
+unfoldable pub wait_answer : List ℕ → Answer
+wait_answer shelf = first_of ((ShelfFull, eqb (lowest_free shelf) (slots shelf)) ∷ []) Shelved
 
-unfoldable pub admittedAnswer : Seat → List ℕ → Heading → List ℕ → List ℕ → Edit → Answer
-admittedAnswer seat shelf heading past barrier edit =
-    cond (ready seat barrier) (readyAnswer seat heading past barrier edit) (waitAnswer shelf)
+unfoldable pub admitted_answer : Seat → List ℕ → Heading → List ℕ → List ℕ → Edit → Answer
+admitted_answer seat shelf heading past barrier edit =
+    cond (ready seat barrier) (ready_answer seat heading past barrier edit) (wait_answer shelf)
 
-unfoldable pub arriveAnswer : Seat → List ℕ → List ℕ → Answer
-arriveAnswer seat shelf packet =
-    first_of (arriveRefusals seat shelf packet)
-    (admittedAnswer seat shelf (headingOf packet) (past_of packet) (barrierOf packet) (editHanded packet))
+unfoldable pub arrive_answer : Seat → List ℕ → List ℕ → Answer
+arrive_answer seat shelf packet =
+    first_of (arrive_refusals seat shelf packet)
+    (admitted_answer seat shelf (heading_of packet) (past_of packet) (barrier_of packet) (edit_handed packet))
 
 -- The shelf after an answer: a packet that was shelved stands in the lowest free slot.
-abbrev pub shelfAfter : Answer → List ℕ → List ℕ → List ℕ
-shelfAfter Shelved packet shelf = laid shelf (lowestFree shelf) (slot_of packet)
-shelfAfter Opened packet shelf = shelf
-shelfAfter (Done edit) packet shelf = shelf
-shelfAfter NothingReady packet shelf = shelf
-shelfAfter (Refused refusal) packet shelf = shelf
+abbrev pub shelf_after : Answer → List ℕ → List ℕ → List ℕ
+shelf_after Shelved packet shelf = laid shelf (lowest_free shelf) (slot_of packet)
+shelf_after Opened packet shelf = shelf
+shelf_after (Done edit) packet shelf = shelf
+shelf_after NothingReady packet shelf = shelf
+shelf_after (Refused refusal) packet shelf = shelf
 
 -- The contract of an arrival: answer, next state, and every byte of the shelf after it.
 pub record Arrived (seat : Seat) (packet shelf : List ℕ) (stepped : Stepped) (after : List ℕ) : Type 0 where
-  pub answered : stepped.answer ≡ arriveAnswer seat shelf packet
-  pub next : stepped.seat ≡ seatAfter (arriveAnswer seat shelf packet) (handOver seat (headingOf packet) (past_of packet) (barrierOf packet)) seat
-  pub shelf-after : after ≡ shelfAfter (arriveAnswer seat shelf packet) packet shelf
+  pub answered : stepped.answer ≡ arrive_answer seat shelf packet
+  pub next : stepped.seat ≡ seat_after (arrive_answer seat shelf packet) (hand_over seat (heading_of packet) (past_of packet) (barrier_of packet)) seat
+  pub shelf_after_is : after ≡ shelf_after (arrive_answer seat shelf packet) packet shelf

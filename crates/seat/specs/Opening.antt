@@ -7,39 +7,39 @@ use Rattle.answers.specs.declared.Refusal.TheVariants.{NoSuchSeat, NotSound}
 use Rattle.answers.specs.declared.Answer.{Answer}
 use Rattle.answers.specs.declared.Answer.TheVariants.{Opened, Done, Shelved, NothingReady, Refused}
 use Rattle.packet.specs.Writing.{in_range}
-use Rattle.shelf.specs.Shelf.{wholeSlots}
-use Rattle.seat.specs.State.{counting, noSeat}
+use Rattle.shelf.specs.Shelf.{whole_slots}
+use Rattle.seat.specs.State.{counting, no_seat}
 use Rattle.seat.specs.declared.Seat.{Seat}
 use Rattle.seat.specs.declared.Stepped.{Stepped}
 
 -- Opening refuses in this order.
-unfoldable pub openRefusals : ℕ → SeatNo → List ℕ → List (Refusal × Bool)
-openRefusals n own shelf =
+unfoldable pub open_refusals : ℕ → SeatNo → List ℕ → List (Refusal × Bool)
+open_refusals n own shelf =
     (NoSuchSeat, not (in_range (record { n = n; sender = own })))
-    ∷ (NotSound, not (wholeSlots shelf))
+    ∷ (NotSound, not (whole_slots shelf))
     ∷ []
 
-unfoldable pub openAnswer : ℕ → SeatNo → List ℕ → Answer
-openAnswer n own shelf = first_of (openRefusals n own shelf) Opened
+unfoldable pub open_answer : ℕ → SeatNo → List ℕ → Answer
+open_answer n own shelf = first_of (open_refusals n own shelf) Opened
 
 -- All counts zero; a refused open hands back a state of zeros only.
-abbrev pub openedSeat : Answer → ℕ → SeatNo → Seat
-openedSeat Opened n own = counting n own
-openedSeat (Done edit) n own = noSeat
-openedSeat Shelved n own = noSeat
-openedSeat NothingReady n own = noSeat
-openedSeat (Refused refusal) n own = noSeat
+abbrev pub opened_seat : Answer → ℕ → SeatNo → Seat
+opened_seat Opened n own = counting n own
+opened_seat (Done edit) n own = no_seat
+opened_seat Shelved n own = no_seat
+opened_seat NothingReady n own = no_seat
+opened_seat (Refused refusal) n own = no_seat
 
 -- The shelf is zeroed, or left.
-abbrev pub openedShelf : Answer → List ℕ → List ℕ
-openedShelf Opened shelf = replicate (length shelf) 0
-openedShelf (Done edit) shelf = shelf
-openedShelf Shelved shelf = shelf
-openedShelf NothingReady shelf = shelf
-openedShelf (Refused refusal) shelf = shelf
+abbrev pub opened_shelf : Answer → List ℕ → List ℕ
+opened_shelf Opened shelf = replicate (length shelf) 0
+opened_shelf (Done edit) shelf = shelf
+opened_shelf Shelved shelf = shelf
+opened_shelf NothingReady shelf = shelf
+opened_shelf (Refused refusal) shelf = shelf
 
 -- The contract of opening: answer, state, and every byte of the shelf after it.
 pub record OpenedAs (n : ℕ) (own : SeatNo) (shelf : List ℕ) (stepped : Stepped) (after : List ℕ) : Type 0 where
-  pub answered : stepped.answer ≡ openAnswer n own shelf
-  pub next : stepped.seat ≡ openedSeat (openAnswer n own shelf) n own
-  pub shelf-after : after ≡ openedShelf (openAnswer n own shelf) shelf
+  pub answered : stepped.answer ≡ open_answer n own shelf
+  pub next : stepped.seat ≡ opened_seat (open_answer n own shelf) n own
+  pub shelf_after_is : after ≡ opened_shelf (open_answer n own shelf) shelf

@@ -1,10 +1,10 @@
 -- What the steps' private functions know when they are called.
 use Rattle.std.specs.Prelude.{ℕ, ◌<◌, ◌≡◌, Bool, true, false, List}
-use Rattle.packet.specs.Packet.{past_of, barrierOf, firstBadPoint}
+use Rattle.packet.specs.Packet.{past_of, barrier_of, first_bad_point}
 use Rattle.packet.specs.declared.Heading.{Heading}
 use Rattle.shelf.specs.Shelf.{slots}
-use Rattle.seat.specs.Stock.{packetAt}
-use Rattle.seat.specs.Arriving.{headingOf, soundBoth}
+use Rattle.seat.specs.Stock.{packet_at}
+use Rattle.seat.specs.Arriving.{heading_of, sound_both}
 use Rattle.seat.specs.Releasing.{chosen}
 use Rattle.seat.specs.Survey.{Surveyed}
 use Rattle.seat.specs.declared.Seat.{Seat}
@@ -12,29 +12,29 @@ use Rattle.seat.specs.declared.stock.Stock.{Stock}
 
 -- A look over state and shelf tells whether both are sound, and what a sound shelf holds.
 pub record LookedOver (choosing : Bool) (seat : Seat) (shelf : List ℕ) (stock : Stock) : Type 0 where
-  pub sound-is : stock.sound ≡ soundBoth seat shelf
+  pub sound_is : stock.sound ≡ sound_both seat shelf
   pub surveyed : stock.sound ≡ true → Surveyed choosing seat shelf stock
 
 -- State and shelf are sound, the shelf was surveyed, and the packet was read as well formed.
 pub record Heard (seat : Seat) (shelf : List ℕ) (stock : Stock) (packet : List ℕ) (heading : Heading) (past barrier : List ℕ) : Type 0 where
-  pub sound : soundBoth seat shelf ≡ true
+  pub sound : sound_both seat shelf ≡ true
   pub surveyed : Surveyed false seat shelf stock
-  pub sound-stock : stock.sound ≡ true
-  pub well-formed : firstBadPoint packet ≡ 0
-  pub heading-is : heading ≡ headingOf packet
+  pub sound_stock : stock.sound ≡ true
+  pub is_well_formed : first_bad_point packet ≡ 0
+  pub heading_is : heading ≡ heading_of packet
   pub past_is : past ≡ past_of packet
-  pub barrier-is : barrier ≡ barrierOf packet
+  pub barrier_is : barrier ≡ barrier_of packet
 
 -- State and shelf are sound, and slot i is the one to release.
 pub record Chosen (seat : Seat) (shelf : List ℕ) (i : ℕ) : Type 0 where
-  pub sound : soundBoth seat shelf ≡ true
+  pub sound : sound_both seat shelf ≡ true
   pub there : i < slots shelf
   pub chosen_is : i ≡ chosen seat shelf
 
 -- The same, and the packet on that slot was read as well formed.
 pub record ChosenRead (seat : Seat) (shelf : List ℕ) (i : ℕ) (heading : Heading) (past barrier : List ℕ) : Type 0 where
   pub chosen : Chosen seat shelf i
-  pub well-formed : firstBadPoint (packetAt shelf i) ≡ 0
-  pub heading-is : heading ≡ headingOf (packetAt shelf i)
-  pub past_is : past ≡ past_of (packetAt shelf i)
-  pub barrier-is : barrier ≡ barrierOf (packetAt shelf i)
+  pub is_well_formed : first_bad_point (packet_at shelf i) ≡ 0
+  pub heading_is : heading ≡ heading_of (packet_at shelf i)
+  pub past_is : past ≡ past_of (packet_at shelf i)
+  pub barrier_is : barrier ≡ barrier_of (packet_at shelf i)

@@ -3,7 +3,7 @@ ghost use Rattle.std.specs.Prelude.{◌≡◌, ◌+◌, ◌*◌, ◌-◌, ◌≤
 ghost use Rattle.answers.specs.Answers.{editNo, first_of};
 ghost use Rattle.vectors.specs.Vectors.{entry};
 ghost use Rattle.packet.specs.Packet.{body_at};
-ghost use Rattle.seat.specs.Arriving.{admissionRefusals, admittedAnswer, Arrived};
+ghost use Rattle.seat.specs.Arriving.{admission_refusals, admitted_answer, Arrived};
 ghost use Rattle.seat.specs.Steps.{Heard};
 
 use super::state::{hand_over, is_barrier_above_past, is_ready};
@@ -39,7 +39,7 @@ fn admitted(
     edit: Edit,
     shelf: &[u8],
 ) -> Answer
-    ensures { result ≡ admittedAnswer seat shelf.now heading past barrier edit }
+    ensures { result ≡ admitted_answer seat shelf.now heading past barrier edit }
 {
     if is_ready(seat, barrier) {
         if is_barrier_above_past(seat, heading, past, barrier) {
@@ -64,7 +64,7 @@ fn judged(
     shelf: &[u8],
 ) -> Answer
     requires { edit.number.0 ≡ entry past heading.sender }
-    ensures { result ≡ first_of (admissionRefusals seat heading past repeated) (admittedAnswer seat shelf.now heading past barrier edit) }
+    ensures { result ≡ first_of (admission_refusals seat heading past repeated) (admitted_answer seat shelf.now heading past barrier edit) }
 {
     if heading.n != seat.n {
         return Answer::Refused(Refusal::OtherSession);

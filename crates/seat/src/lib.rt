@@ -6,7 +6,7 @@ mod stock;
 mod taking;
 
 ghost use Rattle.std.specs.Prelude.{◌≡◌};
-ghost use Rattle.seat.specs.State.{counting, noSeat};
+ghost use Rattle.seat.specs.State.{counting, no_seat};
 ghost use Rattle.seat.specs.Opening.{OpenedAs};
 ghost use Rattle.seat.specs.Arriving.{Arrived};
 ghost use Rattle.seat.specs.Releasing.{Released};
@@ -67,7 +67,7 @@ fn counting_from_zero(n: u8, own: SeatNo) -> Seat
 
 // A state of zeros only, which is not sound.
 fn no_seat() -> Seat
-    ensures { result ≡ noSeat }
+    ensures { result ≡ no_seat }
 {
     counting_from_zero(0, SeatNo(0))
 }

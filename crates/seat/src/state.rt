@@ -1,7 +1,7 @@
 // The seat's state: soundness, readiness and handing over.
 ghost use Rattle.std.specs.Prelude.{◌≡◌};
-ghost use Rattle.seat.specs.State.{headerOf, soundWindows, soundState};
-ghost use Rattle.seat.specs.HandingOver.{ready, raisedBy, handOver, Due, barrierAbovePast};
+ghost use Rattle.seat.specs.State.{header_of, sound_windows, sound_state};
+ghost use Rattle.seat.specs.HandingOver.{ready, raised_by, hand_over, Due, barrier_above_past};
 
 use super::Seat;
 use answers::EditNo;
@@ -11,7 +11,7 @@ use window::Window;
 
 // The header of the packets that the seat sends.
 pub fn header_of(seat: Seat) -> Header
-    ensures { result ≡ headerOf seat }
+    ensures { result ≡ header_of seat }
 {
     let sender = seat.own;
     Header { n: seat.n, sender }
@@ -19,7 +19,7 @@ pub fn header_of(seat: Seat) -> Header
 
 // Whether each sender's window is sound.
 fn has_sound_windows(seat: Seat) -> bool
-    ensures { result ≡ soundWindows seat }
+    ensures { result ≡ sound_windows seat }
 {
     let mut ok = true;
     for k in 0..16 {
@@ -33,7 +33,7 @@ fn has_sound_windows(seat: Seat) -> bool
 
 // Whether the state is sound. That barrier, run and ahead are 0 above n follows from past being 0 there.
 pub fn is_sound(seat: Seat) -> bool
-    ensures { result ≡ soundState seat }
+    ensures { result ≡ sound_state seat }
 {
     if !in_range(header_of(seat)) {
         return false;
@@ -63,7 +63,7 @@ pub fn is_ready(seat: Seat, barrier: [u16; 16]) -> bool
 
 // What raises barrier: past if the edit is causal, its barrier if ordinary.
 pub fn raised_by(kind: Kind, past: [u16; 16], barrier: [u16; 16]) -> [u16; 16]
-    ensures { result ≡ raisedBy kind past barrier }
+    ensures { result ≡ raised_by kind past barrier }
 {
     match kind {
         Kind::Ordinary => barrier,
@@ -78,7 +78,7 @@ pub fn is_barrier_above_past(
     past: [u16; 16],
     barrier: [u16; 16],
 ) -> bool
-    ensures { result ≡ barrierAbovePast seat heading past barrier }
+    ensures { result ≡ barrier_above_past seat heading past barrier }
 {
     let kind = heading.kind;
     let own_past = seat.past;
@@ -90,7 +90,7 @@ pub fn is_barrier_above_past(
 // Lines 7 to 10. The callers have found the edit to be new and in the sender's window, and the state to be sound.
 pub fn hand_over(seat: Seat, heading: Heading, past: [u16; 16], barrier: [u16; 16]) -> Seat
     requires { Due seat heading past }
-    ensures { result ≡ handOver seat heading past barrier }
+    ensures { result ≡ hand_over seat heading past barrier }
 {
     let kind = heading.kind;
     let at = (heading.sender.0 - 1) as usize;

@@ -1,10 +1,10 @@
 // The packets on a shelf, as a seat sees them.
 ghost use Rattle.std.specs.Prelude.{◌≡◌, true, false, ◌+◌, ◌≤◌, ◌<◌, length};
 ghost use Rattle.vectors.specs.Vectors.{entry};
-ghost use Rattle.packet.specs.Packet.{firstBadPoint};
-ghost use Rattle.shelf.specs.Shelf.{slotSize};
-ghost use Rattle.seat.specs.Stock.{packetIn, aboveOwnCount, tooFarAhead};
-ghost use Rattle.seat.specs.Survey.{windowWith, markedWith, passesBeside, key_of, stockOf, Counted, Looked, Looking, Surveyed};
+ghost use Rattle.packet.specs.Packet.{first_bad_point};
+ghost use Rattle.shelf.specs.Shelf.{slot_size};
+ghost use Rattle.seat.specs.Stock.{packet_in, above_own_count, too_far_ahead};
+ghost use Rattle.seat.specs.Survey.{window_with, marked_with, passes_beside, key_of, stock_of, Counted, Looked, Looking, Surveyed};
 ghost use Rattle.seat.specs.Steps.{LookedOver};
 
 use super::Seat;
@@ -39,8 +39,8 @@ pub struct Seen {
 
 // The part of a slot that holds its packet; empty where the slot holds none. The callers hand over a whole slot.
 pub fn packet_in(slot: &[u8]) -> &[u8]
-    requires { length slot.now ≡ slotSize }
-    ensures { result.now ≡ packetIn slot.now }
+    requires { length slot.now ≡ slot_size }
+    ensures { result.now ≡ packet_in slot.now }
 {
     let seats = (slot[1] % 16) as usize + 1;
     let body = slot[3] as usize;
@@ -59,8 +59,8 @@ pub fn packet_in(slot: &[u8]) -> &[u8]
 
 // The same of a slot whose packet was found well formed: its own fields say where it ends.
 pub fn held_in(slot: &[u8]) -> &[u8]
-    requires { (length slot.now ≡ slotSize) × (firstBadPoint (packetIn slot.now) ≡ 0) }
-    ensures { result.now ≡ packetIn slot.now }
+    requires { (length slot.now ≡ slot_size) × (first_bad_point (packet_in slot.now) ≡ 0) }
+    ensures { result.now ≡ packet_in slot.now }
 {
     let seats = (slot[1] % 16) as usize + 1;
     let body = slot[3] as usize;
@@ -84,7 +84,7 @@ pub fn entry_of(v: [u16; 16], seat: SeatNo) -> u16
 
 // Refusal 16: the packet has more of this seat's edits in its past than this seat has sent.
 pub fn is_above_own_count(seat: Seat, past: [u16; 16]) -> bool
-    ensures { result ≡ aboveOwnCount seat past }
+    ensures { result ≡ above_own_count seat past }
 {
     let own = seat.own;
     let own_past = seat.past;
@@ -93,7 +93,7 @@ pub fn is_above_own_count(seat: Seat, past: [u16; 16]) -> bool
 
 // Refusal 18: the number is more than 64 above run.
 pub fn is_too_far_ahead(seat: Seat, sender: SeatNo, number: EditNo) -> bool
-    ensures { result ≡ tooFarAhead seat sender number.0 }
+    ensures { result ≡ too_far_ahead seat sender number.0 }
 {
     let run = seat.run;
     let last = entry_of(run, sender) as u32 + 64;
@@ -104,7 +104,7 @@ pub fn is_too_far_ahead(seat: Seat, sender: SeatNo, number: EditNo) -> bool
 // packet.
 pub fn window_with(run: &[u16; 16], words: &[u64; 16], sender: SeatNo) -> Window
     requires { (1 ≤ sender.0) × (sender.0 ≤ 16) }
-    ensures { result ≡ windowWith run.now words.now sender }
+    ensures { result ≡ window_with run.now words.now sender }
 {
     let at = (sender.0 - 1) as usize;
     Window {
@@ -123,7 +123,7 @@ fn passes_beside(
     past: &[u16; 16],
 ) -> bool
     requires { (1 ≤ heading.sender.0) × (heading.sender.0 ≤ 16) × (1 ≤ seat.own.0) × (seat.own.0 ≤ 16) × (run.now ≡ seat.run) }
-    ensures { result ≡ passesBeside seat words.now heading past.now }
+    ensures { result ≡ passes_beside seat words.now heading past.now }
 {
     let sender = heading.sender;
     let at = (sender.0 - 1) as usize;
@@ -139,7 +139,7 @@ fn passes_beside(
 // A sender's number is marked in the words. The caller has found the number to be in the sender's window.
 fn mark_in(run: &[u16; 16], marks: &mut [u64; 16], sender: SeatNo, number: EditNo)
     requires { (1 ≤ sender.0) × (sender.0 ≤ 16) × (entry run.now sender < number.0) × (number.0 ≤ entry run.now sender + 64) }
-    ensures { marks.new ≡ markedWith run.now marks.old sender number.0 }
+    ensures { marks.new ≡ marked_with run.now marks.old sender number.0 }
 {
     let at = (sender.0 - 1) as usize;
     let window = window_with(run, &*marks, sender).mark(number);
@@ -167,7 +167,7 @@ fn count_in(
     barrier: [u16; 16],
 ) -> Seen
     requires { (1 ≤ sender.0) × (sender.0 ≤ 16) × (entry seat.run sender < entry past.now sender) × (entry past.now sender ≤ entry seat.run sender + 64) × (run.now ≡ seat.run) }
-    ensures { Counted choosing seat (stockOf seen marks.old) i sender past.now barrier (stockOf result marks.new) }
+    ensures { Counted choosing seat (stock_of seen marks.old) i sender past.now barrier (stock_of result marks.new) }
 {
     let at = (sender.0 - 1) as usize;
     let number = EditNo(past[at]);
@@ -213,7 +213,7 @@ fn look(
     seen: Seen,
 ) -> Seen
     requires { Looking choosing i seat run.now shelf.now seen marks.old }
-    ensures { (length marks.new ≡ 16) × Looked choosing (i + 1) seat shelf.now (stockOf result marks.new) }
+    ensures { (length marks.new ≡ 16) × Looked choosing (i + 1) seat shelf.now (stock_of result marks.new) }
 {
     let slot = shelf::slot(shelf, i);
     let reading = packet::read(packet_in(slot));
@@ -242,7 +242,7 @@ fn look(
 }
 
 fn stock_of(seen: Seen, marks: [u64; 16]) -> Stock
-    ensures { result ≡ stockOf seen marks }
+    ensures { result ≡ stock_of seen marks }
 {
     Stock {
         sound: seen.sound,

@@ -19,8 +19,8 @@ pub regroup : {A B C : Type 0} → ((A ⊎ B) ⊎ C) ↔ (A ⊎ (B ⊎ C))
 regroup = (⊎_elim (⊎_elim inl (λ b. inr (inl b))) (λ c. inr (inr c)), ⊎_elim (λ a. inl (inl a)) (⊎_elim (λ b. inl (inr b)) inr))
 
 -- what cannot be adds nothing
-pub or-never : {A B : Type 0} → ¬ B → (A ⊎ B) ↔ A
-or-never never = (⊎_elim (λ a. a) (λ b. absurd (never b)), inl)
+pub or_never : {A B : Type 0} → ¬ B → (A ⊎ B) ↔ A
+or_never never = (⊎_elim (λ a. a) (λ b. absurd (never b)), inl)
 
-pub never-or : {A B : Type 0} → ¬ A → (A ⊎ B) ↔ B
-never-or never = (⊎_elim (λ a. absurd (never a)) (λ b. b), inr)
+pub never_or : {A B : Type 0} → ¬ A → (A ⊎ B) ↔ B
+never_or never = (⊎_elim (λ a. absurd (never a)) (λ b. b), inr)

@@ -7,11 +7,11 @@ use Prim.Native.Nat.{ℕ}
 use native.Mathlib.Decide.{ℕ_discrete}
 use Rattle.session.specs.Events.{Edit, Event, sent, Trace, ◌∈◌, At, Needs, Handed, Accepted, Promised, Throughout, Kept}
 use Rattle.session.specs.Protocol.{Model, Covered, Seated, edit, Turn}
-use Rattle.session.proofs.Either.{◌⨾◌, same, back, either, regroup, or-never, never-or}
-use Rattle.session.proofs.Order.{New, prior-is-settled, needs-settled-by-one}
-use Rattle.session.proofs.Knowledge.{Knows, Owes, PriorOrSame, knows-elsewhere, owes-elsewhere}
+use Rattle.session.proofs.Either.{◌⨾◌, same, back, either, regroup, or_never, never_or}
+use Rattle.session.proofs.Order.{New, prior_is_settled, needs_settled_by_one}
+use Rattle.session.proofs.Knowledge.{Knows, Owes, PriorOrSame, knows_elsewhere, owes_elsewhere}
 use Rattle.session.proofs.Covering.{covered_same}
-use Rattle.session.proofs.Answered.{seatOf, Hands, Accepts, Quiet, quiet-elsewhere, handed-with, accepted-with}
+use Rattle.session.proofs.Answered.{seat_of, Hands, Accepts, Quiet, quiet_elsewhere, handed_with, accepted_with}
 
 module _ (D : Model) where
   open D use {Packet, kind, pastₘ, barrierₘ, Seat, past, barrier, Marked, OnShelf}
@@ -56,61 +56,61 @@ module _ (D : Model) where
 
   -- One event more, at a seat that goes from `a` to `b`.
   module _ (x : Event) {t : Trace} (new : New x t) where
-    pub posted-later : {m : Packet} → Posted t m → Posted (x ∷ t) m
-    posted-later {m} p = record {
+    pub posted_later : {m : Packet} → Posted t m → Posted (x ∷ t) m
+    posted_later {m} p = record {
       out = Memᴰ.tail p.out;
-      covers = λ e. p.covers e ⨾ either same (back (prior-is-settled new (kind m, p.out)));
-      waits = λ e. p.waits e ⨾ back (needs-settled-by-one new (kind m, p.out));
+      covers = λ e. p.covers e ⨾ either same (back (prior_is_settled new (kind m, p.out)));
+      waits = λ e. p.waits e ⨾ back (needs_settled_by_one new (kind m, p.out));
     }
 
-    pub counts-still : {j : ℕ} (a b : Seat) → ¬ At j x → ((i : ℕ) → past b i ≡ past a i) → ((i : ℕ) → barrier b i ≡ barrier a i)
+    pub counts_still : {j : ℕ} (a b : Seat) → ¬ At j x → ((i : ℕ) → past b i ≡ past a i) → ((i : ℕ) → barrier b i ≡ barrier a i)
         → Counts t j a → Counts (x ∷ t) j b
-    counts-still {j} a b away p q c = record {
-      knows = λ e. covered_same e p ⨾ c.knows e ⨾ knows-elsewhere j new away;
-      owes = λ e. covered_same e q ⨾ c.owes e ⨾ owes-elsewhere j new away;
+    counts_still {j} a b away p q c = record {
+      knows = λ e. covered_same e p ⨾ c.knows e ⨾ knows_elsewhere j new away;
+      owes = λ e. covered_same e q ⨾ c.owes e ⨾ owes_elsewhere j new away;
     }
 
     pub holds_after : {j : ℕ} (a b : Seat) → ((e : Edit) → Marked b e ↔ (Marked a e ⊎ Hands x j e)) → ShelfFits t b → Moves x j a b
         → Holds t j a → Holds (x ∷ t) j b
     holds_after a b marks shelf moves h = record {
-      marks = λ e. marks e ⨾ either (h.marks e) same ⨾ back (handed-with x);
-      shelf = λ m y. (posted-later (shelf m y).0, (shelf m y).1);
-      accepts = λ e. accepted-with x ⨾ either (h.accepts e) same ⨾ regroup ⨾ either same (moves e) ⨾ back regroup
-          ⨾ either (back (handed-with x)) same;
+      marks = λ e. marks e ⨾ either (h.marks e) same ⨾ back (handed_with x);
+      shelf = λ m y. (posted_later (shelf m y).0, (shelf m y).1);
+      accepts = λ e. accepted_with x ⨾ either (h.accepts e) same ⨾ regroup ⨾ either same (moves e) ⨾ back regroup
+          ⨾ either (back (handed_with x)) same;
     }
 
-    pub holds-still : {j : ℕ} (a b : Seat) → Quiet j x → ((e : Edit) → Marked b e ↔ Marked a e) → ((m : Packet) → OnShelf b m ↔ OnShelf a m)
+    pub holds_still : {j : ℕ} (a b : Seat) → Quiet j x → ((e : Edit) → Marked b e ↔ Marked a e) → ((m : Packet) → OnShelf b m ↔ OnShelf a m)
         → Holds t j a → Holds (x ∷ t) j b
-    holds-still {j} a b quiet marks shelf h =
+    holds_still {j} a b quiet marks shelf h =
         holds_after a b
-        (λ e. marks e ⨾ back (or-never (quiet.hands_none e)))
+        (λ e. marks e ⨾ back (or_never (quiet.hands_none e)))
         (λ m y. let (p, fresh) = h.shelf m ((shelf m).0 y) in (p, λ z. fresh ((marks (edit D m)).0 z)))
-        (λ e. or-never (quiet.accepts-none e) ⨾ waits e ⨾ back (never-or (quiet.hands_none e)))
+        (λ e. or_never (quiet.accepts_none e) ⨾ waits e ⨾ back (never_or (quiet.hands_none e)))
         h
       where
         waits : (e : Edit) → Waits a e ↔ Waits b e
         waits e = (λ (m, y, q). (m, (shelf m).1 y, q), λ (m, y, q). (m, (shelf m).0 y, q))
 
   -- what holds of the seat whose turn it was, and of the others as they were, holds of each
-  pub each-seat : (P : ℕ → Seat → Type 0) {j : ℕ} {Step : Seat → Seat → Type 0} {seats seats' : ℕ → Seat}
+  pub each_seat : (P : ℕ → Seat → Type 0) {j : ℕ} {Step : Seat → Seat → Type 0} {seats seats' : ℕ → Seat}
       → Turn D j Step seats seats' → P j (seats' j) → ((i : ℕ) → i ≢ j → P i (seats i)) → (i : ℕ) → P i (seats' i)
-  each-seat P {j} {seats' = seats'} turn here away i =
+  each_seat P {j} {seats' = seats'} turn here away i =
       by_cases (ℕ_discrete i j)
       (λ q. subst (λ (l : ℕ). P l (seats' l)) (sym q) here)
       (λ d. subst (λ (a : Seat). P i a) (sym (turn.others i d)) (away i d))
 
   -- an event leaves the invariant where it is new and kept, and leaves it at the packets and at its own seat
-  pub invariant-after : {n : ℕ} {Step : Seat → Seat → Type 0} {seats seats' : ℕ → Seat} {packets packets' : List Packet} {t : Trace} (x : Event)
-      → Invariant n seats packets t → Turn D (seatOf x) Step seats seats' → New x t → Promised x t
+  pub invariant_after : {n : ℕ} {Step : Seat → Seat → Type 0} {seats seats' : ℕ → Seat} {packets packets' : List Packet} {t : Trace} (x : Event)
+      → Invariant n seats packets t → Turn D (seat_of x) Step seats seats' → New x t → Promised x t
       → ((m : Packet) → m ∈ packets' → Posted (x ∷ t) m)
-      → Counts (x ∷ t) (seatOf x) (seats' (seatOf x)) → Holds (x ∷ t) (seatOf x) (seats' (seatOf x))
+      → Counts (x ∷ t) (seat_of x) (seats' (seat_of x)) → Holds (x ∷ t) (seat_of x) (seats' (seat_of x))
       → Invariant n seats' packets' (x ∷ t)
-  invariant-after {n} {seats = seats} {t = t} x I turn new promised posted counts holds = record {
+  invariant_after {n} {seats = seats} {t = t} x I turn new promised posted counts holds = record {
     new = (new, I.new);
     kept = (promised, I.kept);
     posted = posted;
-    counts = each-seat (λ i a. Seated n i → Counts (x ∷ t) i a) turn (λ _. counts)
-        (λ i d s. counts-still x new (seats i) (seats i) (quiet-elsewhere i x d).1 (λ _. refl) (λ _. refl) (I.counts i s));
-    holds = each-seat (λ i a. Seated n i → Holds (x ∷ t) i a) turn (λ _. holds)
-        (λ i d s. holds-still x new (seats i) (seats i) (quiet-elsewhere i x d).0 (λ _. same) (λ _. same) (I.holds i s));
+    counts = each_seat (λ i a. Seated n i → Counts (x ∷ t) i a) turn (λ _. counts)
+        (λ i d s. counts_still x new (seats i) (seats i) (quiet_elsewhere i x d).1 (λ _. refl) (λ _. refl) (I.counts i s));
+    holds = each_seat (λ i a. Seated n i → Holds (x ∷ t) i a) turn (λ _. holds)
+        (λ i d s. holds_still x new (seats i) (seats i) (quiet_elsewhere i x d).0 (λ _. same) (λ _. same) (I.holds i s));
   }

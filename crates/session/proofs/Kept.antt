@@ -5,34 +5,34 @@ use mathlib.Core.List.{[], ◌∷◌, ◌++◌}
 use Prim.Native.Nat.{ℕ}
 use Rattle.session.specs.Events.{Way, Edit, Event, handed, idle, Trace, ◌∈◌, Earlier, last, before, Needs, Exact, Promised}
 use Rattle.session.specs.Events.{Throughout, Kept, Sent}
-use Rattle.session.proofs.Order.{New, needs-settled-by-one}
+use Rattle.session.proofs.Order.{New, needs_settled_by_one}
 
 -- an edit handed over was sent
-pub handed-was-sent : {t : Trace} {w : Way} {j : ℕ} {e : Edit} → Throughout New t → handed w j e ∈ t → Sent t e
-handed-was-sent {t = x ∷ t} new (Memᴰ.head q) =
+pub handed_was_sent : {t : Trace} {w : Way} {j : ℕ} {e : Edit} → Throughout New t → handed w j e ∈ t → Sent t e
+handed_was_sent {t = x ∷ t} new (Memᴰ.head q) =
     let (k, p) = (subst (λ (y : Event). New y t) (sym q) new.0).1 in
     (k, Memᴰ.tail p)
-handed-was-sent {t = x ∷ t} new (Memᴰ.tail p) = let (k, s) = handed-was-sent new.1 p in (k, Memᴰ.tail s)
+handed_was_sent {t = x ∷ t} new (Memᴰ.tail p) = let (k, s) = handed_was_sent new.1 p in (k, Memᴰ.tail s)
 
 -- A seat hands over each edit at most once.
-pub at-most-once : {t : Trace} (w v : Way) (j : ℕ) (e : Edit) → Kept t → ¬ Earlier (handed w j e) (handed v j e) t
-at-most-once {t = x ∷ t} w v j e kept (last q p) = (subst (λ (y : Event). Promised y t) (sym q) kept.0).0 (w, p)
-at-most-once {t = x ∷ t} w v j e kept (before h) = at-most-once w v j e kept.1 h
+pub at_most_once : {t : Trace} (w v : Way) (j : ℕ) (e : Edit) → Kept t → ¬ Earlier (handed w j e) (handed v j e) t
+at_most_once {t = x ∷ t} w v j e kept (last q p) = (subst (λ (y : Event). Promised y t) (sym q) kept.0).0 (w, p)
+at_most_once {t = x ∷ t} w v j e kept (before h) = at_most_once w v j e kept.1 h
 
 -- A seat hands over each edit after all it needs.
-pub after-all-it-needs : {t : Trace} {w : Way} {j : ℕ} {e f : Edit} → Throughout New t → Kept t → handed w j e ∈ t → Needs t e f
+pub after_all_it_needs : {t : Trace} {w : Way} {j : ℕ} {e f : Edit} → Throughout New t → Kept t → handed w j e ∈ t → Needs t e f
     → (v : Way) × Earlier (handed v j f) (handed w j e) t
-after-all-it-needs {t = x ∷ t} {f = f} new kept (Memᴰ.head q) needs =
+after_all_it_needs {t = x ∷ t} {f = f} new kept (Memᴰ.head q) needs =
     let n = subst (λ (y : Event). New y t) (sym q) new.0 in
     let promise = subst (λ (y : Event). Promised y t) (sym q) kept.0 in
-    let (v, p) = promise.1 f ((needs-settled-by-one new.0 n.1).0 needs) in
+    let (v, p) = promise.1 f ((needs_settled_by_one new.0 n.1).0 needs) in
     (v, last q p)
-after-all-it-needs {t = x ∷ t} new kept (Memᴰ.tail p) needs =
-    let (v, h) = after-all-it-needs new.1 kept.1 p ((needs-settled-by-one new.0 (handed-was-sent new.1 p)).0 needs) in
+after_all_it_needs {t = x ∷ t} new kept (Memᴰ.tail p) needs =
+    let (v, h) = after_all_it_needs new.1 kept.1 p ((needs_settled_by_one new.0 (handed_was_sent new.1 p)).0 needs) in
     (v, before h)
 
 -- Told that nothing on its shelf is ready, a seat has handed over exactly the accepted edits whose every needed edit it
 -- has accepted.
-pub exact-when-idle : (later : Trace) {t : Trace} (j : ℕ) → Kept (later ++ (idle j ∷ t)) → Exact t j
-exact-when-idle [] j kept = kept.0
-exact-when-idle (x ∷ later) j kept = exact-when-idle later j kept.1
+pub exact_when_idle : (later : Trace) {t : Trace} (j : ℕ) → Kept (later ++ (idle j ∷ t)) → Exact t j
+exact_when_idle [] j kept = kept.0
+exact_when_idle (x ∷ later) j kept = exact_when_idle later j kept.1

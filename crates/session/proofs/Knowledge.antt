@@ -5,9 +5,9 @@ use mathlib.Core.Logic.{◌⊎◌, ◌↔◌, ⊎_elim}
 use Prim.Native.Nat.{ℕ}
 use Rattle.session.specs.Events.{Kind, causal, Edit, Event, sent, Trace, ◌∈◌, At, Prior, Needs}
 use Rattle.session.proofs.Either.{or_else}
-use Rattle.session.proofs.Order.{New, needs-grow, needs-settled-by-one}
-use Rattle.session.proofs.Seen.{Seen, seen-in, seen-further, seen-grows, seen-elsewhere}
-use Rattle.session.proofs.OneKind.{OneKind, before-whichever, needs-are-prior}
+use Rattle.session.proofs.Order.{New, needs_grow, needs_settled_by_one}
+use Rattle.session.proofs.Seen.{Seen, seen_in, seen_further, seen_grows, seen_elsewhere}
+use Rattle.session.proofs.OneKind.{OneKind, before_whichever, needs_are_prior}
 
 -- The seat has seen the edit sent.
 abbrev pub Knows : Trace → ℕ → Edit → Type 0
@@ -27,26 +27,26 @@ PriorOrSame t e f = (e ≡ f) ⊎ Prior t e f
 
 -- what is owed is known
 module _ {t : Trace} (one : OneKind t) where
-  prior-is-known : {e f : Edit} (j : ℕ) → Prior t e f → Knows t j f → Knows t j e
-  prior-is-known j b (i, s) = (b.0, seen-further j (before-whichever one b (seen-in j s)) s)
+  prior_is_known : {e f : Edit} (j : ℕ) → Prior t e f → Knows t j f → Knows t j e
+  prior_is_known j b (i, s) = (b.0, seen_further j (before_whichever one b (seen_in j s)) s)
 
-  pub owed-is-known : {e : Edit} (j : ℕ) → Owes t j e → Knows t j e
-  owed-is-known j (f, s, r) =
-      ⊎_elim (λ q. subst (λ (g : Edit). Knows t j g) q (causal, s)) (λ n. prior-is-known j (needs-are-prior one n) (causal, s)) r
+  pub owed_is_known : {e : Edit} (j : ℕ) → Owes t j e → Knows t j e
+  owed_is_known j (f, s, r) =
+      ⊎_elim (λ q. subst (λ (g : Edit). Knows t j g) q (causal, s)) (λ n. prior_is_known j (needs_are_prior one n) (causal, s)) r
 
 -- an event elsewhere, and what is owed in any case
 module _ {x : Event} {t : Trace} (j : ℕ) (n : New x t) where
-  pub rest-grows : {f e : Edit} → NeedsOrSame t f e → NeedsOrSame (x ∷ t) f e
-  rest-grows = or_else needs-grow
+  pub rest_grows : {f e : Edit} → NeedsOrSame t f e → NeedsOrSame (x ∷ t) f e
+  rest_grows = or_else needs_grow
 
-  pub rest-shrinks : {f e : Edit} → sent f causal ∈ t → NeedsOrSame (x ∷ t) f e → NeedsOrSame t f e
-  rest-shrinks p = or_else (needs-settled-by-one n (causal, p)).0
+  pub rest_shrinks : {f e : Edit} → sent f causal ∈ t → NeedsOrSame (x ∷ t) f e → NeedsOrSame t f e
+  rest_shrinks p = or_else (needs_settled_by_one n (causal, p)).0
 
-  pub owes-grows : {e : Edit} → Owes t j e → Owes (x ∷ t) j e
-  owes-grows (f, s, r) = (f, seen-grows j n s, rest-grows r)
+  pub owes_grows : {e : Edit} → Owes t j e → Owes (x ∷ t) j e
+  owes_grows (f, s, r) = (f, seen_grows j n s, rest_grows r)
 
-  pub knows-elsewhere : {e : Edit} → ¬ At j x → Knows t j e ↔ Knows (x ∷ t) j e
-  knows-elsewhere away = (λ (k, s). (k, (seen-elsewhere j n away).1 s), λ (k, s). (k, (seen-elsewhere j n away).0 s))
+  pub knows_elsewhere : {e : Edit} → ¬ At j x → Knows t j e ↔ Knows (x ∷ t) j e
+  knows_elsewhere away = (λ (k, s). (k, (seen_elsewhere j n away).1 s), λ (k, s). (k, (seen_elsewhere j n away).0 s))
 
-  pub owes-elsewhere : {e : Edit} → ¬ At j x → Owes t j e ↔ Owes (x ∷ t) j e
-  owes-elsewhere away = (owes-grows, λ (f, s, r). let old = (seen-elsewhere j n away).0 s in (f, old, rest-shrinks (seen-in j old) r))
+  pub owes_elsewhere : {e : Edit} → ¬ At j x → Owes t j e ↔ Owes (x ∷ t) j e
+  owes_elsewhere away = (owes_grows, λ (f, s, r). let old = (seen_elsewhere j n away).0 s in (f, old, rest_shrinks (seen_in j old) r))

@@ -5,9 +5,9 @@ use mathlib.Core.Logic.{◌⊎◌, inl, inr, ◌↔◌, ⊎_elim}
 use Prim.Native.Nat.{ℕ}
 use Rattle.session.specs.Events.{Edit, shelved, Trace, ◌∈◌}
 use Rattle.session.specs.Protocol.{Model, Seated, edit, Shelves, Turn}
-use Rattle.session.proofs.Either.{◌⨾◌, back, or-never}
+use Rattle.session.proofs.Either.{◌⨾◌, back, or_never}
 use Rattle.session.proofs.Answered.{Hands}
-use Rattle.session.proofs.Invariant.{Posted, ShelfFits, Moves, Invariant, posted-later, counts-still, holds_after, invariant-after}
+use Rattle.session.proofs.Invariant.{Posted, ShelfFits, Moves, Invariant, posted_later, counts_still, holds_after, invariant_after}
 
 module _ (D : Model) {n : ℕ} {seats seats' : ℕ → D.Seat} {packets : List D.Packet} {t : Trace} (I : Invariant D n seats packets t)
     (j : ℕ) (m : D.Packet) (seated : Seated n j) (mail : m ∈ packets) (turn : Turn D j (Shelves D m) seats seats') where
@@ -15,30 +15,30 @@ module _ (D : Model) {n : ℕ} {seats seats' : ℕ → D.Seat} {packets : List D
   step = turn.step
 
   marks_stay : (e : Edit) → D.Marked (seats' j) e ↔ (D.Marked (seats j) e ⊎ Hands (shelved j (edit D m)) j e)
-  marks_stay e = step.marks-after e ⨾ back (or-never (λ h. h))
+  marks_stay e = step.marks_after e ⨾ back (or_never (λ h. h))
 
   -- what was on the shelf, and the packet that came to it
-  shelf-fits : ShelfFits D t (seats' j)
-  shelf-fits p y = ⊎_elim old (λ is. subst Fits (sym is) new) ((step.shelf-after p).0 y)
+  shelf_fits : ShelfFits D t (seats' j)
+  shelf_fits p y = ⊎_elim old (λ is. subst Fits (sym is) new) ((step.shelf_after_is p).0 y)
     where
       Fits : D.Packet → Type 0
       Fits d = Posted D t d × (¬ D.Marked (seats' j) (edit D d))
 
       old : D.OnShelf (seats j) p → Fits p
-      old on = let (out, fresh) = (I.holds j seated).shelf p on in (out, λ z. fresh ((step.marks-after (edit D p)).0 z))
+      old on = let (out, fresh) = (I.holds j seated).shelf p on in (out, λ z. fresh ((step.marks_after (edit D p)).0 z))
 
       new : Fits m
-      new = (I.posted m mail, λ z. step.not-marked ((step.marks-after (edit D m)).0 z))
+      new = (I.posted m mail, λ z. step.not_marked ((step.marks_after (edit D m)).0 z))
 
   moves : Moves D (shelved j (edit D m)) j (seats j) (seats' j)
   moves e = (
-    ⊎_elim (λ (p, y, q). inr (p, (step.shelf-after p).1 (inl y), q)) (λ (_, q). inr (m, (step.shelf-after m).1 (inr refl), sym q)),
-    ⊎_elim absurd (λ (p, y, q). ⊎_elim (λ on. inl (p, on, q)) (λ is. inr (refl, sym q ∙ ap (edit D) is)) ((step.shelf-after p).0 y)),
+    ⊎_elim (λ (p, y, q). inr (p, (step.shelf_after_is p).1 (inl y), q)) (λ (_, q). inr (m, (step.shelf_after_is m).1 (inr refl), sym q)),
+    ⊎_elim absurd (λ (p, y, q). ⊎_elim (λ on. inl (p, on, q)) (λ is. inr (refl, sym q ∙ ap (edit D) is)) ((step.shelf_after_is p).0 y)),
   )
 
   -- The invariant holds after an arrival that is shelved.
-  pub after-shelving : Invariant D n seats' packets (shelved j (edit D m) ∷ t)
-  after-shelving =
-      invariant-after D (shelved j (edit D m)) I turn tt tt (λ p q. posted-later D (shelved j (edit D m)) tt (I.posted p q))
-      (counts-still D (shelved j (edit D m)) tt (seats j) (seats' j) (λ h. h) step.past_after step.barrier-after (I.counts j seated))
-      (holds_after D (shelved j (edit D m)) tt (seats j) (seats' j) marks_stay shelf-fits moves (I.holds j seated))
+  pub after_shelving : Invariant D n seats' packets (shelved j (edit D m) ∷ t)
+  after_shelving =
+      invariant_after D (shelved j (edit D m)) I turn tt tt (λ p q. posted_later D (shelved j (edit D m)) tt (I.posted p q))
+      (counts_still D (shelved j (edit D m)) tt (seats j) (seats' j) (λ h. h) step.past_after step.barrier_after_is (I.counts j seated))
+      (holds_after D (shelved j (edit D m)) tt (seats j) (seats' j) marks_stay shelf_fits moves (I.holds j seated))

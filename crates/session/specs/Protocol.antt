@@ -49,23 +49,23 @@ module _ (D : Model) where
 
   -- A freshly opened seat: all counts zero, shelf empty.
   pub record Fresh (seat : Seat) : Type 0 where
-    pub no-past : (i : ℕ) → past seat i ≡ 0
-    pub no-barrier : (i : ℕ) → barrier seat i ≡ 0
-    pub none-marked : (e : Edit) → ¬ Marked seat e
-    pub none-shelved : (m : Packet) → ¬ OnShelf seat m
+    pub no_past : (i : ℕ) → past seat i ≡ 0
+    pub no_barrier : (i : ℕ) → barrier seat i ≡ 0
+    pub none_marked : (e : Edit) → ¬ Marked seat e
+    pub none_shelved : (m : Packet) → ¬ OnShelf seat m
 
   -- Lines 1 to 4: the sender of `m` sends it, and goes from the state `before` to the state `after`.
   pub record Sends (m : Packet) (before after : Seat) : Type 0 where
     -- Lines 1 and 3: the packet's barrier is the seat's, or its past if the edit is causal.
-    pub barrier-sent : (i : ℕ) → barrierₘ m i ≡ by_kind (kind m) (barrier before i) (past before i)
+    pub barrier_sent_is : (i : ℕ) → barrierₘ m i ≡ by_kind (kind m) (barrier before i) (past before i)
     -- Lines 2 and 3: the packet's past is the seat's, with one more at the sender.
-    pub own-past-sent : pastₘ m (sender m) ≡ suc (past before (sender m))
-    pub past-sent : (i : ℕ) → i ≢ sender m → pastₘ m i ≡ past before i
+    pub own_past_sent : pastₘ m (sender m) ≡ suc (past before (sender m))
+    pub past_sent_is : (i : ℕ) → i ≢ sender m → pastₘ m i ≡ past before i
     pub past_after : (i : ℕ) → past after i ≡ pastₘ m i
     -- Line 4: if the edit is causal, the barrier becomes the new past.
-    pub barrier-after : (i : ℕ) → barrier after i ≡ by_kind (kind m) (barrier before i) (pastₘ m i)
-    pub marks-after : (e : Edit) → Marked after e ↔ Marked before e
-    pub shelf-after : (p : Packet) → OnShelf after p ↔ OnShelf before p
+    pub barrier_after_is : (i : ℕ) → barrier after i ≡ by_kind (kind m) (barrier before i) (pastₘ m i)
+    pub marks_after : (e : Edit) → Marked after e ↔ Marked before e
+    pub shelf_after_is : (p : Packet) → OnShelf after p ↔ OnShelf before p
 
   -- Line 5: every edit that the packet's barrier covers is handed over here.
   abbrev pub Ready : Seat → Packet → Type 0
@@ -74,34 +74,34 @@ module _ (D : Model) where
   -- Lines 7 to 10: what handing over `m` (line 6) does to the counts and marks.
   pub record Learns (m : Packet) (before after : Seat) : Type 0 where
     -- Line 7.
-    pub marks-after : (e : Edit) → Marked after e ↔ (Marked before e ⊎ (e ≡ edit m))
+    pub marks_after : (e : Edit) → Marked after e ↔ (Marked before e ⊎ (e ≡ edit m))
     -- Line 8.
     pub past_after : (i : ℕ) → past after i ≡ max (past before i) (pastₘ m i)
     -- Lines 9 and 10.
-    pub barrier-after : (i : ℕ) → barrier after i ≡ max (barrier before i) (by_kind (kind m) (barrierₘ m i) (pastₘ m i))
+    pub barrier_after_is : (i : ℕ) → barrier after i ≡ max (barrier before i) (by_kind (kind m) (barrierₘ m i) (pastₘ m i))
 
   -- An arrival that is handed over: new here, and ready.
   pub record Takes (m : Packet) (before after : Seat) : Type 0 where
-    pub not-marked : ¬ Marked before (edit m)
-    pub not-shelved : (p : Packet) → OnShelf before p → edit p ≢ edit m
+    pub not_marked : ¬ Marked before (edit m)
+    pub not_shelved : (p : Packet) → OnShelf before p → edit p ≢ edit m
     pub ready : Ready before m
     pub learns : Learns m before after
-    pub shelf-after : (p : Packet) → OnShelf after p ↔ OnShelf before p
+    pub shelf_after_is : (p : Packet) → OnShelf after p ↔ OnShelf before p
 
   -- An arrival that is put on the shelf.
   pub record Shelves (m : Packet) (before after : Seat) : Type 0 where
-    pub not-marked : ¬ Marked before (edit m)
+    pub not_marked : ¬ Marked before (edit m)
     pub past_after : (i : ℕ) → past after i ≡ past before i
-    pub barrier-after : (i : ℕ) → barrier after i ≡ barrier before i
-    pub marks-after : (e : Edit) → Marked after e ↔ Marked before e
-    pub shelf-after : (p : Packet) → OnShelf after p ↔ (OnShelf before p ⊎ (p ≡ m))
+    pub barrier_after_is : (i : ℕ) → barrier after i ≡ barrier before i
+    pub marks_after : (e : Edit) → Marked after e ↔ Marked before e
+    pub shelf_after_is : (p : Packet) → OnShelf after p ↔ (OnShelf before p ⊎ (p ≡ m))
 
   -- A release: a ready packet of the shelf is handed over and leaves it.
   pub record Releases (m : Packet) (before after : Seat) : Type 0 where
-    pub on-shelf : OnShelf before m
+    pub is_on_shelf : OnShelf before m
     pub ready : Ready before m
     pub learns : Learns m before after
-    pub shelf-after : (p : Packet) → OnShelf after p ↔ (OnShelf before p × (edit p ≢ edit m))
+    pub shelf_after_is : (p : Packet) → OnShelf after p ↔ (OnShelf before p × (edit p ≢ edit m))
 
   -- Nothing on the shelf is ready.
   abbrev pub Rests : Seat → Type 0
@@ -137,5 +137,5 @@ module _ (D : Model) where
     pub posted : m ∈ packets
     pub missing : ¬ Handed trace j (edit m)
     pub ready : Ready seat m
-    pub after-all-before : (e : Edit) → Prior trace e (edit m) → Handed trace j e
-    pub in-turn : (k : ℕ) → 1 ≤ k → k < (edit m).number → Handed trace j (record { by = sender m; number = k })
+    pub after_all_before : (e : Edit) → Prior trace e (edit m) → Handed trace j e
+    pub in_turn : (k : ℕ) → 1 ≤ k → k < (edit m).number → Handed trace j (record { by = sender m; number = k })

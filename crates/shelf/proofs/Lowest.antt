@@ -9,40 +9,40 @@ use Rattle.shelf.specs.Shelf.{lowest}
 -- r is at most n, the test fails below it, and holds of it where it is below n
 pub record Lowest (n : ℕ) (test : ℕ → Bool) (r : ℕ) : Type 0 where
   pub most : r ≤ n
-  pub fails-below : (k : ℕ) → k < r → test k ≡ false
+  pub fails_below : (k : ℕ) → k < r → test k ≡ false
   pub holds : r < n → test r ≡ true
 
-found-more : (n : ℕ) (test : ℕ → Bool) (r : ℕ) → Lowest n (λ k. test (suc k)) r → (first : Bool) → test 0 ≡ first → Lowest (suc n) test (cond first 0 (suc r))
-found-more n test r so true e =
-    record { most = omega arith; fails-below = λ k h. absurd (not-suc-le-zero h); holds = λ h. e }
-found-more n test r so false e = record { most = omega arith; fails-below = below; holds = λ h. so.holds (omega arith) }
+found_more : (n : ℕ) (test : ℕ → Bool) (r : ℕ) → Lowest n (λ k. test (suc k)) r → (first : Bool) → test 0 ≡ first → Lowest (suc n) test (cond first 0 (suc r))
+found_more n test r so true e =
+    record { most = omega arith; fails_below = λ k h. absurd (not-suc-le-zero h); holds = λ h. e }
+found_more n test r so false e = record { most = omega arith; fails_below = below; holds = λ h. so.holds (omega arith) }
   where
     below : (k : ℕ) → k < suc r → test k ≡ false
     below zero h = e
-    below (suc k) h = so.fails-below k (le_of_suc-le-suc h)
+    below (suc k) h = so.fails_below k (le_of_suc-le-suc h)
 
-pub lowest-is-lowest : (n : ℕ) (test : ℕ → Bool) → Lowest n test (lowest n test)
+pub lowest_is_lowest : (n : ℕ) (test : ℕ → Bool) → Lowest n test (lowest n test)
 unfolding lowest
-lowest-is-lowest zero test =
-    record { most = omega arith; fails-below = λ k h. absurd (not-suc-le-zero h); holds = λ h. absurd (not-suc-le-zero h) }
-lowest-is-lowest (suc n) test =
-    found-more n test (lowest n (λ k. test (suc k))) (lowest-is-lowest n (λ k. test (suc k))) (test 0) refl
+lowest_is_lowest zero test =
+    record { most = omega arith; fails_below = λ k h. absurd (not-suc-le-zero h); holds = λ h. absurd (not-suc-le-zero h) }
+lowest_is_lowest (suc n) test =
+    found_more n test (lowest n (λ k. test (suc k))) (lowest_is_lowest n (λ k. test (suc k))) (test 0) refl
 
 -- no other index is it
-pub only-lowest : (n : ℕ) (test : ℕ → Bool) (r : ℕ) → Lowest n test r → r ≡ lowest n test
+pub only_lowest : (n : ℕ) (test : ℕ → Bool) (r : ℕ) → Lowest n test r → r ≡ lowest n test
 unfolding lowest
-only-lowest zero test r so = omega arith
-only-lowest (suc n) test zero so = rw (so.holds (omega arith))
-only-lowest (suc n) test (suc r) so =
-    rw (so.fails-below 0 (omega arith))
+only_lowest zero test r so = omega arith
+only_lowest (suc n) test zero so = rw (so.holds (omega arith))
+only_lowest (suc n) test (suc r) so =
+    rw (so.fails_below 0 (omega arith))
     (ap suc
-    (only-lowest n (λ k. test (suc k)) r
-    (record { most = omega arith; fails-below = λ k h. so.fails-below (suc k) (omega arith); holds = λ h. so.holds (omega arith) })))
+    (only_lowest n (λ k. test (suc k)) r
+    (record { most = omega arith; fails_below = λ k h. so.fails_below (suc k) (omega arith); holds = λ h. so.holds (omega arith) })))
 
 -- it is n exactly where the test fails everywhere below n
-pub none-lowest : (n : ℕ) (test : ℕ → Bool) → ((k : ℕ) → k < n → test k ≡ false) → lowest n test ≡ n
-none-lowest n test none =
-    sym (only-lowest n test n (record { most = omega arith; fails-below = none; holds = λ h. absurd (omega arith) }))
+pub none_lowest : (n : ℕ) (test : ℕ → Bool) → ((k : ℕ) → k < n → test k ≡ false) → lowest n test ≡ n
+none_lowest n test none =
+    sym (only_lowest n test n (record { most = omega arith; fails_below = none; holds = λ h. absurd (omega arith) }))
 
-pub lowest-none : (n : ℕ) (test : ℕ → Bool) → lowest n test ≡ n → (k : ℕ) → k < n → test k ≡ false
-lowest-none n test e k h = (lowest-is-lowest n test).fails-below k (omega arith)
+pub lowest_none : (n : ℕ) (test : ℕ → Bool) → lowest n test ≡ n → (k : ℕ) → k < n → test k ≡ false
+lowest_none n test e k h = (lowest_is_lowest n test).fails_below k (omega arith)

@@ -17,56 +17,56 @@ module _ (size : ℕ) where
   abbrev pub put : List ℕ → ℕ → List ℕ → List ℕ
   put l i s = take (size * i) l ++ (s ++ drop (size * i + size) l)
 
-  pub length-piece : (l : List ℕ) (i : ℕ) → size * i + size ≤ length l → length (piece l i) ≡ size
-  length-piece l i inside = length-take-le size (drop (size * i) l) (rw length-drop (omega arith))
+  pub length_piece : (l : List ℕ) (i : ℕ) → size * i + size ≤ length l → length (piece l i) ≡ size
+  length_piece l i inside = length-take-le size (drop (size * i) l) (rw length-drop (omega arith))
 
   -- the places of two pieces do not meet
-  piece-before : (i j : ℕ) → i < j → size * i + size ≤ size * j
-  piece-before i j less = rw mul-suc at (mul-le-mul_left size less)
+  piece_before : (i j : ℕ) → i < j → size * i + size ≤ size * j
+  piece_before i j less = rw mul-suc at (mul-le-mul_left size less)
 
   module _ (l : List ℕ) (i : ℕ) (s : List ℕ) (inside : size * i + size ≤ length l) (long : length s ≡ size) where
     front : length (take (size * i) l) ≡ size * i
     front = length-take-le (size * i) l (omega arith)
 
-    pub length-put : length (put l i s) ≡ length l
-    length-put = simp (length-append, length-drop, front) (omega arith)
+    pub length_put : length (put l i s) ≡ length l
+    length_put = simp (length-append, length-drop, front) (omega arith)
 
-    pub put-reads-back : piece (put l i s) i ≡ s
-    put-reads-back =
+    pub put_reads_back : piece (put l i s) i ≡ s
+    put_reads_back =
         ap (take size) (drop_at (take (size * i) l) (s ++ drop (size * i + size) l) (size * i) front) ∙ take_at s (drop (size * i + size) l) size long
 
-    byte-before : (k : ℕ) → k < size * i → get_or (put l i s) k 0 ≡ get_or l k 0
-    byte-before k h = get_or-append (take (size * i) l) (s ++ drop (size * i + size) l) 0 k (omega (arith, front)) ∙ get_or-take (size * i) l k 0 h
+    byte_before : (k : ℕ) → k < size * i → get_or (put l i s) k 0 ≡ get_or l k 0
+    byte_before k h = get_or-append (take (size * i) l) (s ++ drop (size * i + size) l) 0 k (omega (arith, front)) ∙ get_or-take (size * i) l k 0 h
 
-    byte-after : (k : ℕ) → get_or (put l i s) (size * i + size + k) 0 ≡ get_or l (size * i + size + k) 0
-    byte-after k =
+    byte_after : (k : ℕ) → get_or (put l i s) (size * i + size + k) 0 ≡ get_or l (size * i + size + k) 0
+    byte_after k =
         let tail = drop (size * i + size) l in
         let e : size * i + size + k ≡ length (take (size * i) l) + (length s + k) = omega (arith, front) in
         ap (λ (p : ℕ). get_or (put l i s) p 0) e ∙ get_or-append-add (take (size * i) l) (s ++ tail) (length s + k) 0 ∙ get_or-append-add s tail k 0
         ∙ get_or-drop (size * i + size) l k 0
 
-    pub put-keeps-others : (j : ℕ) → (j ≡ i → ⊥) → size * j + size ≤ length l → piece (put l i s) j ≡ piece l j
-    put-keeps-others j other there =
-        ext_get_or 0 (piece (put l i s) j) (piece l j) (length-piece (put l i s) j (rw length-put there) ∙ sym (length-piece l j there)) each
+    pub put_keeps_others : (j : ℕ) → (j ≡ i → ⊥) → size * j + size ≤ length l → piece (put l i s) j ≡ piece l j
+    put_keeps_others j other there =
+        ext_get_or 0 (piece (put l i s) j) (piece l j) (length_piece (put l i s) j (rw length_put there) ∙ sym (length_piece l j there)) each
       where
         same : (k : ℕ) → k < size → get_or (put l i s) (size * j + k) 0 ≡ get_or l (size * j + k) 0
         same k h =
             elim (dec_lt j i) [
-              | yes before ↦ byte-before (size * j + k) (omega (arith, piece-before j i before))
-              | no after ↦ let le = piece-before i j (omega arith) in
+              | yes before ↦ byte_before (size * j + k) (omega (arith, piece_before j i before))
+              | no after ↦ let le = piece_before i j (omega arith) in
                   let e : size * j + k ≡ size * i + size + (size * j + k - (size * i + size)) = omega arith in
-                  rw e (byte-after (size * j + k - (size * i + size)))
+                  rw e (byte_after (size * j + k - (size * i + size)))
             ]
 
         each : (k : ℕ) → k < length (piece (put l i s) j) → get_or (piece (put l i s) j) k 0 ≡ get_or (piece l j) k 0
         each k h =
-            let less : k < size = rw (length-piece (put l i s) j (rw length-put there)) at h in
+            let less : k < size = rw (length_piece (put l i s) j (rw length_put there)) at h in
             get_or-take size (drop (size * j) (put l i s)) k 0 less ∙ get_or-drop (size * j) (put l i s) k 0 ∙ same k less
             ∙ sym (get_or-take size (drop (size * j) l) k 0 less ∙ get_or-drop (size * j) l k 0)
 
   -- lists of whole pieces with the same pieces are the same
-  pub same-pieces-same-list : (n : ℕ) (a b : List ℕ) → 0 < size → length a ≡ size * n → length a ≡ length b → ((i : ℕ) → i < n → piece a i ≡ piece b i) → a ≡ b
-  same-pieces-same-list n a b some whole long pieces = ext_get_or 0 a b long each
+  pub same_pieces_same_list : (n : ℕ) (a b : List ℕ) → 0 < size → length a ≡ size * n → length a ≡ length b → ((i : ℕ) → i < n → piece a i ≡ piece b i) → a ≡ b
+  same_pieces_same_list n a b some whole long pieces = ext_get_or 0 a b long each
     where
       byte_of : (l : List ℕ) (k : ℕ) → get_or l k 0 ≡ get_or (piece l (k / size)) (k % size) 0
       byte_of l k =

@@ -9,54 +9,54 @@ use lib.ListN.{length, take, drop}
 use lib.Seq.{sets, sets-eq}
 use borrow.Author.Tests.{eqb-true, leb-true}
 use Rattle.vectors.proofs.Every.{and_both}
-use Rattle.shelf.specs.Shelf.{slotSize, slotsMost, slots, wholeSlots, slot_at, laid}
-use Rattle.shelf.proofs.Pieces.{length-piece, length-put, put-reads-back, put-keeps-others, same-pieces-same-list}
+use Rattle.shelf.specs.Shelf.{slot_size, slots_most, slots, whole_slots, slot_at, laid}
+use Rattle.shelf.proofs.Pieces.{length_piece, length_put, put_reads_back, put_keeps_others, same_pieces_same_list}
 
 -- what the test of whole slots says
-pub whole-is-slots : (shelf : List ℕ) → wholeSlots shelf ≡ true → (length shelf ≡ slotSize * slots shelf) × (slots shelf ≤ slotsMost)
-unfolding wholeSlots
-whole-is-slots shelf whole =
-    let both = and_both (eqb (length shelf % slotSize) 0) (leb (slots shelf) slotsMost) whole in
-    let even = eqb-true (length shelf % slotSize) 0 both.0 in
-    (omega arith, leb-true (slots shelf) slotsMost both.1)
+pub whole_is_slots : (shelf : List ℕ) → whole_slots shelf ≡ true → (length shelf ≡ slot_size * slots shelf) × (slots shelf ≤ slots_most)
+unfolding whole_slots
+whole_is_slots shelf whole =
+    let both = and_both (eqb (length shelf % slot_size) 0) (leb (slots shelf) slots_most) whole in
+    let even = eqb-true (length shelf % slot_size) 0 both.0 in
+    (omega arith, leb-true (slots shelf) slots_most both.1)
 
 -- a slot that is there ends inside the shelf
-pub slot-inside : (shelf : List ℕ) (i : ℕ) → i < slots shelf → slotSize * i + slotSize ≤ length shelf
-slot-inside shelf i there = omega arith
+pub slot_inside : (shelf : List ℕ) (i : ℕ) → i < slots shelf → slot_size * i + slot_size ≤ length shelf
+slot_inside shelf i there = omega arith
 
-pub length-slotAt : (shelf : List ℕ) (i : ℕ) → i < slots shelf → length (slot_at shelf i) ≡ slotSize
+pub length_slot_at : (shelf : List ℕ) (i : ℕ) → i < slots shelf → length (slot_at shelf i) ≡ slot_size
 unfolding slot_at
-length-slotAt shelf i there = length-piece slotSize shelf i (slot-inside shelf i there)
+length_slot_at shelf i there = length_piece slot_size shelf i (slot_inside shelf i there)
 
-module _ (shelf : List ℕ) (i : ℕ) (slot : List ℕ) (there : i < slots shelf) (long : length slot ≡ slotSize) where
+module _ (shelf : List ℕ) (i : ℕ) (slot : List ℕ) (there : i < slots shelf) (long : length slot ≡ slot_size) where
   -- laying writes the slot's bytes at its place
-  pub laid-is-stored : laid shelf i slot ≡ sets shelf (slotSize * i) slot
+  pub laid_is_stored : laid shelf i slot ≡ sets shelf (slot_size * i) slot
   unfolding laid
-  laid-is-stored =
+  laid_is_stored =
       sym
-      (rw long at (sets-eq slot shelf (slotSize * i) (omega arith)) ∙ append_assoc (take (slotSize * i) shelf) slot (drop (slotSize * i + slotSize) shelf))
+      (rw long at (sets-eq slot shelf (slot_size * i) (omega arith)) ∙ append_assoc (take (slot_size * i) shelf) slot (drop (slot_size * i + slot_size) shelf))
 
-  pub laying-keeps-length : length (laid shelf i slot) ≡ length shelf
+  pub laying_keeps_length : length (laid shelf i slot) ≡ length shelf
   unfolding laid
-  laying-keeps-length = length-put slotSize shelf i slot (slot-inside shelf i there) long
+  laying_keeps_length = length_put slot_size shelf i slot (slot_inside shelf i there) long
 
-  pub laying-keeps-slots : slots (laid shelf i slot) ≡ slots shelf
-  laying-keeps-slots = ap (λ (n : ℕ). n / slotSize) laying-keeps-length
+  pub laying_keeps_slots : slots (laid shelf i slot) ≡ slots shelf
+  laying_keeps_slots = ap (λ (n : ℕ). n / slot_size) laying_keeps_length
 
-  pub laying-keeps-whole : wholeSlots (laid shelf i slot) ≡ wholeSlots shelf
-  unfolding wholeSlots
-  laying-keeps-whole = rw laying-keeps-length
+  pub laying_keeps_whole : whole_slots (laid shelf i slot) ≡ whole_slots shelf
+  unfolding whole_slots
+  laying_keeps_whole = rw laying_keeps_length
 
-  pub laid-reads-back : slot_at (laid shelf i slot) i ≡ slot
+  pub laid_reads_back : slot_at (laid shelf i slot) i ≡ slot
   unfolding slot_at laid
-  laid-reads-back = put-reads-back slotSize shelf i slot (slot-inside shelf i there) long
+  laid_reads_back = put_reads_back slot_size shelf i slot (slot_inside shelf i there) long
 
-  pub laying-keeps-others : (j : ℕ) → (j ≡ i → ⊥) → j < slots shelf → slot_at (laid shelf i slot) j ≡ slot_at shelf j
+  pub laying_keeps_others : (j : ℕ) → (j ≡ i → ⊥) → j < slots shelf → slot_at (laid shelf i slot) j ≡ slot_at shelf j
   unfolding slot_at laid
-  laying-keeps-others j other also =
-      put-keeps-others slotSize shelf i slot (slot-inside shelf i there) long j other (slot-inside shelf j also)
+  laying_keeps_others j other also =
+      put_keeps_others slot_size shelf i slot (slot_inside shelf i there) long j other (slot_inside shelf j also)
 
 -- shelves of whole slots with the same slots are the same
-pub same-slots-same-shelf : (a b : List ℕ) → wholeSlots a ≡ true → length a ≡ length b → ((i : ℕ) → i < slots a → slot_at a i ≡ slot_at b i) → a ≡ b
+pub same_slots_same_shelf : (a b : List ℕ) → whole_slots a ≡ true → length a ≡ length b → ((i : ℕ) → i < slots a → slot_at a i ≡ slot_at b i) → a ≡ b
 unfolding slot_at
-same-slots-same-shelf a b whole long each = same-pieces-same-list slotSize (slots a) a b (omega arith) (whole-is-slots a whole).0 long each
+same_slots_same_shelf a b whole long each = same_pieces_same_list slot_size (slots a) a b (omega arith) (whole_is_slots a whole).0 long each

@@ -10,36 +10,36 @@ use lib.ListN.{length, get_or, take, drop, length-drop, replicate, length-append
 use lib.Seq.{length-take-le, ext_get_or, get_or-take, get_or-drop, sets, sets-eq}
 use borrow.Author.Tests.{eqb-true, eq-eqb, ne_eqb}
 use Rattle.vectors.specs.Vectors.{all}
-use Rattle.vectors.proofs.Every.{all-at, all_of, all-fails, all_same, all_split}
-use Rattle.shelf.specs.Shelf.{allZero}
+use Rattle.vectors.proofs.Every.{all_at, all_of, all_fails, all_same, all_split}
+use Rattle.shelf.specs.Shelf.{all_zero}
 
 module _ (s : List ℕ) where
   -- what is all zero is 0 everywhere, and the other way round
-  pub all-zero-at : (k : ℕ) → allZero s ≡ true → get_or s k 0 ≡ 0
-  unfolding allZero
-  all-zero-at k e =
+  pub all_zero_at : (k : ℕ) → all_zero s ≡ true → get_or s k 0 ≡ 0
+  unfolding all_zero
+  all_zero_at k e =
       elim (dec_lt k (length s)) [
-        | yes inside ↦ eqb-true (get_or s k 0) 0 (all-at (λ j. eqb (get_or s j 0) 0) (length s) k e inside)
+        | yes inside ↦ eqb-true (get_or s k 0) 0 (all_at (λ j. eqb (get_or s j 0) 0) (length s) k e inside)
         | no past ↦ get_or-eq_default s 0 (omega arith)
       ]
 
-  pub all-zero-of : ((k : ℕ) → k < length s → get_or s k 0 ≡ 0) → allZero s ≡ true
-  unfolding allZero
-  all-zero-of each = all_of (λ j. eqb (get_or s j 0) 0) (length s) (λ k h. eq-eqb (get_or s k 0) 0 (each k h))
+  pub all_zero_of : ((k : ℕ) → k < length s → get_or s k 0 ≡ 0) → all_zero s ≡ true
+  unfolding all_zero
+  all_zero_of each = all_of (λ j. eqb (get_or s j 0) 0) (length s) (λ k h. eq-eqb (get_or s k 0) 0 (each k h))
 
-  pub one-byte-not-zero : (k : ℕ) → k < length s → (get_or s k 0 ≡ 0 → ⊥) → allZero s ≡ false
-  unfolding allZero
-  one-byte-not-zero k h some = all-fails (λ j. eqb (get_or s j 0) 0) (length s) k h (ne_eqb (get_or s k 0) 0 some)
+  pub one_byte_not_zero : (k : ℕ) → k < length s → (get_or s k 0 ≡ 0 → ⊥) → all_zero s ≡ false
+  unfolding all_zero
+  one_byte_not_zero k h some = all_fails (λ j. eqb (get_or s j 0) 0) (length s) k h (ne_eqb (get_or s k 0) 0 some)
 
-  pub all-zero-are-zeros : allZero s ≡ true → s ≡ replicate (length s) 0
-  all-zero-are-zeros e =
-      ext_get_or 0 s (replicate (length s) 0) (sym (length-replicate (length s) 0)) (λ k h. all-zero-at k e ∙ sym (get_or-replicate (length s) k 0 0 h))
+  pub all_zero_are_zeros : all_zero s ≡ true → s ≡ replicate (length s) 0
+  all_zero_are_zeros e =
+      ext_get_or 0 s (replicate (length s) 0) (sym (length-replicate (length s) 0)) (λ k h. all_zero_at k e ∙ sym (get_or-replicate (length s) k 0 0 h))
 
 -- the first places, and the part after them
-pub all-zero-parts : (s : List ℕ) (at : ℕ) → at ≤ length s
-    → allZero s ≡ (all at (λ k. eqb (get_or s k 0) 0) && allZero (take (length s - at) (drop at s)))
-unfolding allZero
-all-zero-parts s at h =
+pub all_zero_parts : (s : List ℕ) (at : ℕ) → at ≤ length s
+    → all_zero s ≡ (all at (λ k. eqb (get_or s k 0) 0) && all_zero (take (length s - at) (drop at s)))
+unfolding all_zero
+all_zero_parts s at h =
     let test : ℕ → Bool = λ k. eqb (get_or s k 0) 0 in
     let rest = length s - at in
     let whole : length s ≡ at + rest = omega arith in
@@ -50,32 +50,32 @@ all-zero-parts s at h =
     (all_same rest _ _ (λ k less. ap (λ (x : ℕ). eqb x 0) (sym (get_or-take rest (drop at s) k 0 less ∙ get_or-drop at s k 0)))
     ∙ ap (λ (n : ℕ). all n (λ k. eqb (get_or (take rest (drop at s)) k 0) 0)) (sym long))
 
-pub zeros-are-all-zero : (n : ℕ) → allZero (replicate n 0) ≡ true
-zeros-are-all-zero n = all-zero-of (replicate n 0) (λ k h. get_or-replicate n k 0 0 (rw length-replicate at h))
+pub zeros_are_all_zero : (n : ℕ) → all_zero (replicate n 0) ≡ true
+zeros_are_all_zero n = all_zero_of (replicate n 0) (λ k h. get_or-replicate n k 0 0 (rw length-replicate at h))
 
-pub part-is-all-zero : (s : List ℕ) (n from : ℕ) → allZero s ≡ true → allZero (take n (drop from s)) ≡ true
-part-is-all-zero s n from e = all-zero-of (take n (drop from s)) each
+pub part_is_all_zero : (s : List ℕ) (n from : ℕ) → all_zero s ≡ true → all_zero (take n (drop from s)) ≡ true
+part_is_all_zero s n from e = all_zero_of (take n (drop from s)) each
   where
     each : (k : ℕ) → k < length (take n (drop from s)) → get_or (take n (drop from s)) k 0 ≡ 0
     each k h =
         let less : k < n = omega (arith, length-take n (drop from s)) in
-        get_or-take n (drop from s) k 0 less ∙ get_or-drop from s k 0 ∙ all-zero-at s (from + k) e
+        get_or-take n (drop from s) k 0 less ∙ get_or-drop from s k 0 ∙ all_zero_at s (from + k) e
 
 -- a list that is all zero from place m on is its first m numbers, and zeros to its end
-pub zeros-to-the-end : (s : List ℕ) (m : ℕ) → allZero (drop m s) ≡ true → s ≡ take m s ++ replicate (length s - length (take m s)) 0
-zeros-to-the-end s m rest =
+pub zeros_to_the_end : (s : List ℕ) (m : ℕ) → all_zero (drop m s) ≡ true → s ≡ take m s ++ replicate (length s - length (take m s)) 0
+zeros_to_the_end s m rest =
     let both : length (take m s) + length (drop m s) ≡ length s = sym (length-append (take m s) (drop m s)) ∙ ap length (take-append-drop m s) in
     let many : length (drop m s) ≡ length s - length (take m s) = omega arith in
-    sym (take-append-drop m s) ∙ ap (λ (l : List ℕ). take m s ++ l) (all-zero-are-zeros (drop m s) rest ∙ ap (λ (n : ℕ). replicate n 0) many)
+    sym (take-append-drop m s) ∙ ap (λ (l : List ℕ). take m s ++ l) (all_zero_are_zeros (drop m s) rest ∙ ap (λ (n : ℕ). replicate n 0) many)
 
 -- ---- stored
 
-pub one-zero-more : (n : ℕ) → replicate {A = ℕ} (n + 1) 0 ≡ replicate n 0 ++ (0 ∷ [])
-one-zero-more n = sym (replicate-append-replicate n 1 0)
+pub one_zero_more : (n : ℕ) → replicate {A = ℕ} (n + 1) 0 ≡ replicate n 0 ++ (0 ∷ [])
+one_zero_more n = sym (replicate-append-replicate n 1 0)
 
 -- zeros over the whole list
-pub zeros-stored : (l : List ℕ) → sets l 0 (replicate (length l) 0) ≡ replicate (length l) 0
-zeros-stored l =
+pub zeros_stored : (l : List ℕ) → sets l 0 (replicate (length l) 0) ≡ replicate (length l) 0
+zeros_stored l =
     let zeros : List ℕ = replicate (length l) 0 in
     let long : length zeros ≡ length l = length-replicate (length l) 0 in
     let past : length l ≤ 0 + length zeros = omega arith in

@@ -3,7 +3,7 @@
 ghost use Rattle.std.specs.Prelude.{◌≡◌, ◌+◌, ◌*◌, ◌-◌, ◌≤◌, ◌<◌, eqb, length, get_or, replicate};
 ghost use Rattle.std.proofs.lemmas.List.Edits.{sets};
 ghost use Rattle.vectors.specs.Vectors.{all};
-ghost use Rattle.shelf.specs.Shelf.{slotSize, slots, wholeSlots, slot_at, allZero, slot_of, laid, freeSlot, lowestFree};
+ghost use Rattle.shelf.specs.Shelf.{slot_size, slots, whole_slots, slot_at, all_zero, slot_of, laid, free_slot, lowest_free};
 
 // The bytes of a slot.
 pub const SLOT_SIZE: usize = 268;
@@ -25,7 +25,7 @@ fn has_zero_fours(s: &[u8], count: usize) -> bool
 
 // Whether every byte is 0, looked at one by one.
 fn has_zero_bytes(s: &[u8]) -> bool
-    ensures { result ≡ allZero s.now }
+    ensures { result ≡ all_zero s.now }
 {
     let mut gathered: u8 = 0;
     for k in 0..s.len() {
@@ -36,7 +36,7 @@ fn has_zero_bytes(s: &[u8]) -> bool
 
 // Whether every byte is 0: four at a time, and then those that are left.
 pub fn is_zero(s: &[u8]) -> bool
-    ensures { result ≡ allZero s.now }
+    ensures { result ≡ all_zero s.now }
 {
     let n = s.len() / 4;
     let at = 4 * n;
@@ -45,8 +45,8 @@ pub fn is_zero(s: &[u8]) -> bool
 
 // Whether a slot is free. One that is in use shows it by its first byte. The callers hand over a whole slot.
 pub fn is_free(slot: &[u8]) -> bool
-    requires { length slot.now ≡ slotSize }
-    ensures { result ≡ allZero slot.now }
+    requires { length slot.now ≡ slot_size }
+    ensures { result ≡ all_zero slot.now }
 {
     if slot[0] != 0 {
         return false;
@@ -56,7 +56,7 @@ pub fn is_free(slot: &[u8]) -> bool
 
 // Whether the shelf is whole slots, and not too many of them.
 pub fn has_whole_slots(shelf: &[u8]) -> bool
-    ensures { result ≡ wholeSlots shelf.now }
+    ensures { result ≡ whole_slots shelf.now }
 {
     (shelf.len() % SLOT_SIZE == 0) & (shelf.len() / SLOT_SIZE <= SLOTS_MOST)
 }
@@ -73,7 +73,7 @@ pub fn slot(shelf: &[u8], i: usize) -> &[u8]
 
 // The first free slot, or the number of slots where there is none.
 pub fn lowest_free(shelf: &[u8]) -> usize
-    ensures { result ≡ lowestFree shelf.now }
+    ensures { result ≡ lowest_free shelf.now }
 {
     let n = shelf.len() / SLOT_SIZE;
     for i in 0..n {
@@ -97,7 +97,7 @@ fn put_zeros(out: &mut [u8], start: usize, n: usize)
 // A packet goes to slot i: a byte 1, the packet, and zeros to the slot's end. The callers have found the slot to be there
 // and the packet to be short enough for it.
 pub fn lay(shelf: &mut [u8], i: usize, packet: &[u8])
-    requires { (i < slots shelf.old) × (length packet.now ≤ slotSize - 1) }
+    requires { (i < slots shelf.old) × (length packet.now ≤ slot_size - 1) }
     ensures { shelf.new ≡ laid shelf.old i (slot_of packet.now) }
 {
     let start = SLOT_SIZE * i;
@@ -112,7 +112,7 @@ pub fn lay(shelf: &mut [u8], i: usize, packet: &[u8])
 // Slot i is zeroed. The callers have found the slot to be there.
 pub fn clear(shelf: &mut [u8], i: usize)
     requires { i < slots shelf.old }
-    ensures { shelf.new ≡ laid shelf.old i freeSlot }
+    ensures { shelf.new ≡ laid shelf.old i free_slot }
 {
     let start = SLOT_SIZE * i;
     put_zeros(shelf, start, SLOT_SIZE);

@@ -1,7 +1,7 @@
 // Walks a step list from standard input, and prints what each step is answered (document 01, "The step-list program").
 ghost use Rattle.std.specs.Prelude.{◌+◌, ◌≤◌, ◌≡◌, length};
-ghost use Rattle.steps.specs.Memory.{shelvesSize, packetsSize};
-ghost use Rattle.steps.specs.Course.{numberMost, Ready};
+ghost use Rattle.steps.specs.Memory.{shelves_size, packets_size};
+ghost use Rattle.steps.specs.Course.{number_most, Ready};
 
 use libc::{STDIN_FILENO, STDOUT_FILENO};
 use steps::list::{Course, finish, is_over, no_packets, no_shelves, start, take_piece};
@@ -24,7 +24,7 @@ fn no_output() -> [u8; PRINTED]
 
 // Reads a piece of the input, and writes what it prints.
 fn walk_some(course: Course, shelves: &mut [u8], packets: &mut [u8], out: &mut [u8]) -> Step
-    requires { Ready course × (course.number + 4096 ≤ numberMost) × (length shelves.old ≡ shelvesSize) × (length packets.old ≡ packetsSize) × (length out.old ≡ 143360) }
+    requires { Ready course × (course.number + 4096 ≤ number_most) × (length shelves.old ≡ shelves_size) × (length packets.old ≡ packets_size) × (length out.old ≡ 143360) }
     ensures { Ready result.course × (result.course.number ≤ course.number + 4096) }
 {
     let mut text = io::buffer();
@@ -48,7 +48,7 @@ fn walk_some(course: Course, shelves: &mut [u8], packets: &mut [u8], out: &mut [
 
 // Walks the whole input. A proved loop has to end, so it counts its pieces down from a number that no input has.
 fn walk_all(shelves: &mut [u8], packets: &mut [u8], out: &mut [u8])
-    requires { (length shelves.old ≡ shelvesSize) × (length packets.old ≡ packetsSize) × (length out.old ≡ 143360) }
+    requires { (length shelves.old ≡ shelves_size) × (length packets.old ≡ packets_size) × (length out.old ≡ 143360) }
 {
     let mut course = start();
     let mut pieces: u64 = 1125899906842624;

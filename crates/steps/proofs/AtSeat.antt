@@ -4,70 +4,70 @@ use mathlib.Core.Path.{◌≡◌, subst, ap, ◌∙◌}
 use mathlib.Core.List.{List, []}
 use lib.ListN.{length, take, drop, length-set}
 use borrow.Rule.Slice.PartMut.{put_mid}
-use Rattle.packet.specs.Packet.{packetLength}
+use Rattle.packet.specs.Packet.{packet_length}
 use Rattle.packet.specs.declared.Kind.{Kind}
 use Rattle.packet.specs.declared.Kind.TheVariants.{Ordinary, Causal}
-use Rattle.packet.proofs.Laid.{length-packet}
-use Rattle.seat.specs.State.{headerOf}
-use Rattle.seat.specs.Sending.{kind_of, barrierSent, pastSent, packetSent, Sent}
+use Rattle.packet.proofs.Laid.{length_packet}
+use Rattle.seat.specs.State.{header_of}
+use Rattle.seat.specs.Sending.{kind_of, barrier_sent, past_sent, packet_sent, Sent}
 use Rattle.seat.specs.Arriving.{Arrived}
 use Rattle.seat.specs.Releasing.{Released}
 use Rattle.seat.specs.declared.Seat.{Seat}
 use Rattle.seat.specs.declared.Stepped.{Stepped}
 use Rattle.seat.specs.declared.Wish.{Wish}
-use Rattle.steps.specs.Session.{packetMost}
-use Rattle.steps.specs.Memory.{seatIn, shelfSize, shelfIn, piece, withPiece, withLetter, walkedTo, SentEmpty, SentAt, ArrivedAt, ReleasedAt}
+use Rattle.steps.specs.Session.{packet_most}
+use Rattle.steps.specs.Memory.{seat_in, shelf_size, shelf_in, piece, with_piece, with_letter, walked_to, SentEmpty, SentAt, ArrivedAt, ReleasedAt}
 use Rattle.steps.specs.declared.walk.Walk.{Walk}
 use Rattle.steps.specs.declared.walk.Walked.{Walked}
-use Rattle.steps.proofs.Parts.{part-lent, part-back}
+use Rattle.steps.proofs.Parts.{part_lent, part_back}
 
-module _ (seat : Seat) (past-long : length seat.past ≡ 16) (barrier-long : length seat.barrier ≡ 16) where
-  barrier-sent-long : (kind : Kind) → length (barrierSent seat kind) ≡ 16
-  barrier-sent-long Ordinary = barrier-long
-  barrier-sent-long Causal = past-long
+module _ (seat : Seat) (past_long : length seat.past ≡ 16) (barrier_long : length seat.barrier ≡ 16) where
+  barrier_sent_long : (kind : Kind) → length (barrier_sent seat kind) ≡ 16
+  barrier_sent_long Ordinary = barrier_long
+  barrier_sent_long Causal = past_long
 
-  pub empty-packet-long : (wish : Wish) → seat.n ≤ 16 → length (packetSent seat (kind_of wish) []) ≡ packetLength seat.n 0
-  empty-packet-long wish most =
-      length-packet (kind_of wish) (headerOf seat) (pastSent seat) (barrierSent seat (kind_of wish)) [] (rw (length-set, past-long) most) (rw (barrier-sent-long (kind_of wish)) most)
+  pub empty_packet_long : (wish : Wish) → seat.n ≤ 16 → length (packet_sent seat (kind_of wish) []) ≡ packet_length seat.n 0
+  empty_packet_long wish most =
+      length_packet (kind_of wish) (header_of seat) (past_sent seat) (barrier_sent seat (kind_of wish)) [] (rw (length-set, past_long) most) (rw (barrier_sent_long (kind_of wish)) most)
 
 module _ (walk : Walk) (i : ℕ) (buffer : List ℕ) (stepped : Stepped) (after : List ℕ) (walked : Walked) where
-  pub sent-at : (wish : Wish) (noted : Walk)
-      → SentEmpty (seatIn walk i) wish (take (packetMost * walk.letters + packetMost - packetMost * walk.letters) (drop (packetMost * walk.letters) buffer)) stepped after
-      → noted ≡ withLetter walk stepped.answer
-      → walked ≡ walkedTo noted i stepped.seat stepped.answer
-      → SentAt walk i wish buffer walked (put_mid (packetMost * walk.letters) (packetMost * walk.letters + packetMost - packetMost * walk.letters) buffer after)
-  sent-at wish noted lent is-noted moved =
-      let sent : Sent (seatIn walk i) wish [] (piece packetMost buffer walk.letters) stepped after
-      = subst (λ (out : List ℕ). Sent (seatIn walk i) wish [] out stepped after) (part-lent packetMost walk.letters buffer) lent.sent in
+  pub sent_at : (wish : Wish) (noted : Walk)
+      → SentEmpty (seat_in walk i) wish (take (packet_most * walk.letters + packet_most - packet_most * walk.letters) (drop (packet_most * walk.letters) buffer)) stepped after
+      → noted ≡ with_letter walk stepped.answer
+      → walked ≡ walked_to noted i stepped.seat stepped.answer
+      → SentAt walk i wish buffer walked (put_mid (packet_most * walk.letters) (packet_most * walk.letters + packet_most - packet_most * walk.letters) buffer after)
+  sent_at wish noted lent is-noted moved =
+      let sent : Sent (seat_in walk i) wish [] (piece packet_most buffer walk.letters) stepped after
+      = subst (λ (out : List ℕ). Sent (seat_in walk i) wish [] out stepped after) (part_lent packet_most walk.letters buffer) lent.sent in
       record {
-        walked-is = moved
-            ∙ ap (λ (m : Walk). walkedTo m i stepped.seat stepped.answer) is-noted
-            ∙ (λ j. walkedTo (withLetter walk (sent.answered j)) i (sent.next j) (sent.answered j));
-        packets-are = part-back packetMost walk.letters buffer after
-            ∙ ap (withPiece packetMost buffer walk.letters) sent.output;
-        packet-long = lent.packet-long;
+        walked_is = moved
+            ∙ ap (λ (m : Walk). walked_to m i stepped.seat stepped.answer) is-noted
+            ∙ (λ j. walked_to (with_letter walk (sent.answered j)) i (sent.next j) (sent.answered j));
+        packets_are = part_back packet_most walk.letters buffer after
+            ∙ ap (with_piece packet_most buffer walk.letters) sent.output;
+        packet_long = lent.packet_long;
       }
 
-  pub arrived-at : (packet : List ℕ)
-      → Arrived (seatIn walk i) packet (take (shelfSize walk * i + shelfSize walk - shelfSize walk * i) (drop (shelfSize walk * i) buffer)) stepped after
-      → walked ≡ walkedTo walk i stepped.seat stepped.answer
-      → ArrivedAt walk i packet buffer walked (put_mid (shelfSize walk * i) (shelfSize walk * i + shelfSize walk - shelfSize walk * i) buffer after)
-  arrived-at packet lent moved =
-      let arrived : Arrived (seatIn walk i) packet (shelfIn walk buffer i) stepped after
-      = subst (λ (shelf : List ℕ). Arrived (seatIn walk i) packet shelf stepped after) (part-lent (shelfSize walk) i buffer) lent in
+  pub arrived_at : (packet : List ℕ)
+      → Arrived (seat_in walk i) packet (take (shelf_size walk * i + shelf_size walk - shelf_size walk * i) (drop (shelf_size walk * i) buffer)) stepped after
+      → walked ≡ walked_to walk i stepped.seat stepped.answer
+      → ArrivedAt walk i packet buffer walked (put_mid (shelf_size walk * i) (shelf_size walk * i + shelf_size walk - shelf_size walk * i) buffer after)
+  arrived_at packet lent moved =
+      let arrived : Arrived (seat_in walk i) packet (shelf_in walk buffer i) stepped after
+      = subst (λ (shelf : List ℕ). Arrived (seat_in walk i) packet shelf stepped after) (part_lent (shelf_size walk) i buffer) lent in
       record {
-        walked-is = moved ∙ (λ j. walkedTo walk i (arrived.next j) (arrived.answered j));
-        shelves-are = part-back (shelfSize walk) i buffer after ∙ ap (withPiece (shelfSize walk) buffer i) arrived.shelf-after;
+        walked_is = moved ∙ (λ j. walked_to walk i (arrived.next j) (arrived.answered j));
+        shelves_are = part_back (shelf_size walk) i buffer after ∙ ap (with_piece (shelf_size walk) buffer i) arrived.shelf_after_is;
       }
 
-  pub released-at : (out : List ℕ)
-      → Released (seatIn walk i) (take (shelfSize walk * i + shelfSize walk - shelfSize walk * i) (drop (shelfSize walk * i) buffer)) [] stepped after out
-      → walked ≡ walkedTo walk i stepped.seat stepped.answer
-      → ReleasedAt walk i buffer walked (put_mid (shelfSize walk * i) (shelfSize walk * i + shelfSize walk - shelfSize walk * i) buffer after)
-  released-at out lent moved =
-      let released : Released (seatIn walk i) (shelfIn walk buffer i) [] stepped after out
-      = subst (λ (shelf : List ℕ). Released (seatIn walk i) shelf [] stepped after out) (part-lent (shelfSize walk) i buffer) lent in
+  pub released_at : (out : List ℕ)
+      → Released (seat_in walk i) (take (shelf_size walk * i + shelf_size walk - shelf_size walk * i) (drop (shelf_size walk * i) buffer)) [] stepped after out
+      → walked ≡ walked_to walk i stepped.seat stepped.answer
+      → ReleasedAt walk i buffer walked (put_mid (shelf_size walk * i) (shelf_size walk * i + shelf_size walk - shelf_size walk * i) buffer after)
+  released_at out lent moved =
+      let released : Released (seat_in walk i) (shelf_in walk buffer i) [] stepped after out
+      = subst (λ (shelf : List ℕ). Released (seat_in walk i) shelf [] stepped after out) (part_lent (shelf_size walk) i buffer) lent in
       record {
-        walked-is = moved ∙ (λ j. walkedTo walk i (released.next j) (released.answered j));
-        shelves-are = part-back (shelfSize walk) i buffer after ∙ ap (withPiece (shelfSize walk) buffer i) released.shelf-after;
+        walked_is = moved ∙ (λ j. walked_to walk i (released.next j) (released.answered j));
+        shelves_are = part_back (shelf_size walk) i buffer after ∙ ap (with_piece (shelf_size walk) buffer i) released.shelf_after_is;
       }

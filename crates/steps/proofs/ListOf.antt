@@ -11,35 +11,35 @@ use lib.Seq.{get_or_at, set_at, set-append_left}
 use Rattle.steps.specs.Session.{list_of}
 
 module _ {A : Type 0} where
-  pub length-listOf : (n : ℕ) (f : ℕ → A) → length (list_of n f) ≡ n
+  pub length_list_of : (n : ℕ) (f : ℕ → A) → length (list_of n f) ≡ n
   unfolding list_of
-  length-listOf zero f = refl
-  length-listOf (suc n) f = length-append (list_of n f) (f n ∷ []) ∙ ap (λ (k : ℕ). k + 1) (length-listOf n f) ∙ add-one n
+  length_list_of zero f = refl
+  length_list_of (suc n) f = length-append (list_of n f) (f n ∷ []) ∙ ap (λ (k : ℕ). k + 1) (length_list_of n f) ∙ add-one n
 
-  pub listOf-at : (n i : ℕ) (f : ℕ → A) (d : A) → i < n → get_or (list_of n f) i d ≡ f i
+  pub list_of_at : (n i : ℕ) (f : ℕ → A) (d : A) → i < n → get_or (list_of n f) i d ≡ f i
   unfolding list_of
-  listOf-at zero i f d h = absurd (not-suc-le-zero h)
-  listOf-at (suc n) i f d h =
+  list_of_at zero i f d h = absurd (not-suc-le-zero h)
+  list_of_at (suc n) i f d h =
       elim (dec_lt i n) [
-        | yes below ↦ get_or-append (list_of n f) (f n ∷ []) d i (rw length-listOf below) ∙ listOf-at n i f d below
+        | yes below ↦ get_or-append (list_of n f) (f n ∷ []) d i (rw length_list_of below) ∙ list_of_at n i f d below
         | no above ↦ let e : i ≡ n = omega arith in
-            rw e (get_or_at (list_of n f) (f n) [] d n (length-listOf n f))
+            rw e (get_or_at (list_of n f) (f n) [] d n (length_list_of n f))
       ]
 
-  pub same-listOf : (n : ℕ) (f g : ℕ → A) → ((i : ℕ) → i < n → f i ≡ g i) → list_of n f ≡ list_of n g
+  pub same_list_of : (n : ℕ) (f g : ℕ → A) → ((i : ℕ) → i < n → f i ≡ g i) → list_of n f ≡ list_of n g
   unfolding list_of
-  same-listOf zero f g same = refl
-  same-listOf (suc n) f g same = λ j. same-listOf n f g (λ i h. same i (omega arith)) j ++ (same n (omega arith) j ∷ [])
+  same_list_of zero f g same = refl
+  same_list_of (suc n) f g same = λ j. same_list_of n f g (λ i h. same i (omega arith)) j ++ (same n (omega arith) j ∷ [])
 
-  pub set-listOf : (n k : ℕ) (f g : ℕ → A) → k < n → ((i : ℕ) → i < n → (i ≡ k → ⊥) → g i ≡ f i)
+  pub set_list_of : (n k : ℕ) (f g : ℕ → A) → k < n → ((i : ℕ) → i < n → (i ≡ k → ⊥) → g i ≡ f i)
       → list_of n g ≡ set (list_of n f) k (g k)
   unfolding list_of
-  set-listOf zero k f g h same = absurd (not-suc-le-zero h)
-  set-listOf (suc n) k f g h same =
+  set_list_of zero k f g h same = absurd (not-suc-le-zero h)
+  set_list_of (suc n) k f g h same =
       elim (dec_lt k n) [
-        | yes below ↦ (λ j. set-listOf n k f g below (λ i l. same i (omega arith)) j ++ (same n (omega arith) (λ e. omega arith) j ∷ []))
-            ∙ sym (set-append_left (list_of n f) (f n ∷ []) k (g k) (rw length-listOf below))
+        | yes below ↦ (λ j. set_list_of n k f g below (λ i l. same i (omega arith)) j ++ (same n (omega arith) (λ e. omega arith) j ∷ []))
+            ∙ sym (set-append_left (list_of n f) (f n ∷ []) k (g k) (rw length_list_of below))
         | no above ↦ let e : k ≡ n = omega arith in
-            rw e ((λ j. same-listOf n g f (λ i l. same i (omega arith) (λ e2. omega arith)) j ++ (g n ∷ []))
-            ∙ sym (set_at (list_of n f) (f n) [] (g n) n (length-listOf n f)))
+            rw e ((λ j. same_list_of n g f (λ i l. same i (omega arith) (λ e2. omega arith)) j ++ (g n ∷ []))
+            ∙ sym (set_at (list_of n f) (f n) [] (g n) n (length_list_of n f)))
       ]

@@ -14,117 +14,117 @@ use lib.Seq.{get_or-set_same, get_or-set_other}
 use Rattle.answers.specs.Answers.{seatNo}
 use Rattle.answers.specs.declared.Answer.TheVariants.{Opened}
 use Rattle.packet.specs.Writing.{in_range}
-use Rattle.shelf.specs.Shelf.{slotSize, wholeSlots}
-use Rattle.shelf.proofs.Pieces.{length-piece, put-reads-back, put-keeps-others}
+use Rattle.shelf.specs.Shelf.{slot_size, whole_slots}
+use Rattle.shelf.proofs.Pieces.{length_piece, put_reads_back, put_keeps_others}
 use Rattle.seat.specs.State.{counting}
-use Rattle.seat.specs.Opening.{openAnswer, openedSeat, openedShelf, OpenedAs}
+use Rattle.seat.specs.Opening.{open_answer, opened_seat, opened_shelf, OpenedAs}
 use Rattle.seat.specs.declared.Seat.{Seat}
 use Rattle.seat.specs.declared.Stepped.{Stepped}
-use Rattle.seat.proofs.OpenAnswers.{opening-answers-0}
-use Rattle.steps.specs.Session.{nobody, openedPlace, opened, list_of}
-use Rattle.steps.specs.Memory.{piece, withPiece, place_in, letterIn, sessionIn, slotsMost, shelvesSize, Bounded, OpenedIn, AllOpened}
+use Rattle.seat.proofs.OpenAnswers.{opening_answers_0}
+use Rattle.steps.specs.Session.{nobody, opened_place, opened, list_of}
+use Rattle.steps.specs.Memory.{piece, with_piece, place_in, letter_in, session_in, slots_most, shelves_size, Bounded, OpenedIn, AllOpened}
 use Rattle.steps.specs.declared.walk.Walk.{Walk}
-use Rattle.steps.proofs.Parts.{part-lent, part-back}
-use Rattle.steps.proofs.ListOf.{same-listOf}
+use Rattle.steps.proofs.Parts.{part_lent, part_back}
+use Rattle.steps.proofs.ListOf.{same_list_of}
 
-whole-shelf : (slots : ℕ) (shelf : List ℕ) → slots ≤ slotsMost → length shelf ≡ slots * slotSize → wholeSlots shelf ≡ true
-unfolding wholeSlots
-whole-shelf slots shelf few long =
-    rw (long, mul-mod_left slots slotSize, mul-div_cancel slots {n = slotSize} (omega arith)) (le-leb slots 32 (omega arith))
+whole_shelf : (slots : ℕ) (shelf : List ℕ) → slots ≤ slots_most → length shelf ≡ slots * slot_size → whole_slots shelf ≡ true
+unfolding whole_slots
+whole_shelf slots shelf few long =
+    rw (long, mul-mod_left slots slot_size, mul-div_cancel slots {n = slot_size} (omega arith)) (le-leb slots 32 (omega arith))
 
-module _ (n slots i : ℕ) (there : i < n) (seats-most : n ≤ 16) (few : slots ≤ slotsMost) where
-  seat-in-range : in_range (record { n = n; sender = seatNo (suc i) }) ≡ true
+module _ (n slots i : ℕ) (there : i < n) (seats_within_most : n ≤ 16) (few : slots ≤ slots_most) where
+  seat_in_range : in_range (record { n = n; sender = seatNo (suc i) }) ≡ true
   unfolding in_range
-  seat-in-range = rw (le-leb 1 n (omega arith), le-leb n 16 seats-most, le-leb 1 (suc i) (omega arith), le-leb (suc i) n there)
+  seat_in_range = rw (le-leb 1 n (omega arith), le-leb n 16 seats_within_most, le-leb 1 (suc i) (omega arith), le-leb (suc i) n there)
 
-  opens : (shelf : List ℕ) → length shelf ≡ slots * slotSize → openAnswer n (seatNo (suc i)) shelf ≡ Opened
-  opens shelf long = opening-answers-0 n (seatNo (suc i)) shelf seat-in-range (whole-shelf slots shelf few long)
+  opens : (shelf : List ℕ) → length shelf ≡ slots * slot_size → open_answer n (seatNo (suc i)) shelf ≡ Opened
+  opens shelf long = opening_answers_0 n (seatNo (suc i)) shelf seat_in_range (whole_shelf slots shelf few long)
 
-  pub opened-place : openedPlace n slots (suc i) ≡ record { seat = counting n (seatNo (suc i)); shelf = replicate (slots * slotSize) 0 }
-  opened-place =
-      let zeros = replicate {A = ℕ} (slots * slotSize) 0 in
-      let long = length-replicate {A = ℕ} (slots * slotSize) 0 in
-      (λ p. record { seat = openedSeat (opens zeros long p) n (seatNo (suc i)); shelf = openedShelf (opens zeros long p) zeros })
+  pub opened_place_is : opened_place n slots (suc i) ≡ record { seat = counting n (seatNo (suc i)); shelf = replicate (slots * slot_size) 0 }
+  opened_place_is =
+      let zeros = replicate {A = ℕ} (slots * slot_size) 0 in
+      let long = length-replicate {A = ℕ} (slots * slot_size) 0 in
+      (λ p. record { seat = opened_seat (opens zeros long p) n (seatNo (suc i)); shelf = opened_shelf (opens zeros long p) zeros })
       ∙ (λ p. record { seat = counting n (seatNo (suc i)); shelf = replicate (long p) 0 })
 
-  pub opened-at : (shelves : List ℕ) (stepped : Stepped) (after : List ℕ) → slots * slotSize * i + slots * slotSize ≤ length shelves
-      → OpenedAs n (seatNo (i + 1)) (take (slots * slotSize * i + slots * slotSize - slots * slotSize * i) (drop (slots * slotSize * i) shelves)) stepped after
-      → OpenedIn n slots i shelves stepped.seat (put_mid (slots * slotSize * i) (slots * slotSize * i + slots * slotSize - slots * slotSize * i) shelves after)
-  opened-at shelves stepped after inside lent =
-      let size = slots * slotSize in
-      let long = length-piece size shelves i inside in
+  pub opened_at : (shelves : List ℕ) (stepped : Stepped) (after : List ℕ) → slots * slot_size * i + slots * slot_size ≤ length shelves
+      → OpenedAs n (seatNo (i + 1)) (take (slots * slot_size * i + slots * slot_size - slots * slot_size * i) (drop (slots * slot_size * i) shelves)) stepped after
+      → OpenedIn n slots i shelves stepped.seat (put_mid (slots * slot_size * i) (slots * slot_size * i + slots * slot_size - slots * slot_size * i) shelves after)
+  opened_at shelves stepped after inside lent =
+      let size = slots * slot_size in
+      let long = length_piece size shelves i inside in
       let at : OpenedAs n (seatNo (suc i)) (piece size shelves i) stepped after
       = subst (λ (k : ℕ). OpenedAs n (seatNo k) (piece size shelves i) stepped after) (add-one i)
-      (subst (λ (shelf : List ℕ). OpenedAs n (seatNo (i + 1)) shelf stepped after) (part-lent size i shelves) lent) in
+      (subst (λ (shelf : List ℕ). OpenedAs n (seatNo (i + 1)) shelf stepped after) (part_lent size i shelves) lent) in
       let yields = opens (piece size shelves i) long in
       record {
-        seat-is = at.next ∙ (λ p. openedSeat (yields p) n (seatNo (suc i)));
-        shelves-are = part-back size i shelves after
-            ∙ ap (withPiece size shelves i) (at.shelf-after ∙ (λ p. openedShelf (yields p) (piece size shelves i)) ∙ ap (λ (k : ℕ). replicate {A = ℕ} k 0) long);
+        seat_is = at.next ∙ (λ p. opened_seat (yields p) n (seatNo (suc i)));
+        shelves_are = part_back size i shelves after
+            ∙ ap (with_piece size shelves i) (at.shelf_after_is ∙ (λ p. opened_shelf (yields p) (piece size shelves i)) ∙ ap (λ (k : ℕ). replicate {A = ℕ} k 0) long);
       }
 
 -- ---- one seat after another
 
-pub none-opened : (n slots : ℕ) (seats : List Seat) (shelves : List ℕ) → length seats ≡ 16 → AllOpened 0 n slots seats shelves
-none-opened n slots seats shelves long =
-    record { long = long; seat-is = λ i h. absurd (not-suc-le-zero h); shelf-is = λ i h. absurd (not-suc-le-zero h) }
+pub none_opened : (n slots : ℕ) (seats : List Seat) (shelves : List ℕ) → length seats ≡ 16 → AllOpened 0 n slots seats shelves
+none_opened n slots seats shelves long =
+    record { long = long; seat_is = λ i h. absurd (not-suc-le-zero h); shelf_is = λ i h. absurd (not-suc-le-zero h) }
 
-module _ (n slots : ℕ) (seats-most : n ≤ 16) (few : slots ≤ slotsMost) where
-  pub opened_inside : (shelves : List ℕ) (i : ℕ) → length shelves ≡ shelvesSize → i < n → slots * slotSize * i + slots * slotSize ≤ length shelves
+module _ (n slots : ℕ) (seats_within_most : n ≤ 16) (few : slots ≤ slots_most) where
+  pub opened_inside : (shelves : List ℕ) (i : ℕ) → length shelves ≡ shelves_size → i < n → slots * slot_size * i + slots * slot_size ≤ length shelves
   opened_inside shelves i long h =
       let fewer : suc i ≤ 16 = omega arith in
-      omega (arith, mul-suc (slots * slotSize) i, mul-le-mul_left (slots * slotSize) fewer)
+      omega (arith, mul-suc (slots * slot_size) i, mul-le-mul_left (slots * slot_size) fewer)
 
-  pub one-more-opened : (k : ℕ) (seats : List Seat) (shelves : List ℕ) (seat : Seat) (shelves-left : List ℕ) → k < n → length shelves ≡ shelvesSize
+  pub one_more_opened : (k : ℕ) (seats : List Seat) (shelves : List ℕ) (seat : Seat) (shelves-left : List ℕ) → k < n → length shelves ≡ shelves_size
       → AllOpened k n slots seats shelves → OpenedIn n slots k shelves seat shelves-left → AllOpened (k + 1) n slots (set seats k seat) shelves-left
-  one-more-opened k seats shelves seat shelves-left h long so at =
-      record { long = length-set seats k seat ∙ so.long; seat-is = seat-is; shelf-is = shelf-is }
+  one_more_opened k seats shelves seat shelves-left h long so at =
+      record { long = length-set seats k seat ∙ so.long; seat_is = seat_is; shelf_is = shelf_is }
     where
-      seat-is : (i : ℕ) → i < k + 1 → get_or (set seats k seat) i nobody ≡ counting n (seatNo (suc i))
-      seat-is i l =
+      seat_is : (i : ℕ) → i < k + 1 → get_or (set seats k seat) i nobody ≡ counting n (seatNo (suc i))
+      seat_is i l =
           elim (ℕ_discrete i k) [
-            | yes here ↦ rw here (get_or-set_same seats k seat nobody (omega (arith, so.long)) ∙ at.seat-is)
-            | no other ↦ get_or-set_other seats k i seat nobody other ∙ so.seat-is i (omega arith)
+            | yes here ↦ rw here (get_or-set_same seats k seat nobody (omega (arith, so.long)) ∙ at.seat_is)
+            | no other ↦ get_or-set_other seats k i seat nobody other ∙ so.seat_is i (omega arith)
           ]
 
-      shelf-is : (i : ℕ) → i < k + 1 → piece (slots * slotSize) shelves-left i ≡ replicate (slots * slotSize) 0
-      shelf-is i l =
+      shelf_is : (i : ℕ) → i < k + 1 → piece (slots * slot_size) shelves-left i ≡ replicate (slots * slot_size) 0
+      shelf_is i l =
           let inside = opened_inside shelves k long h in
-          let zeros = length-replicate {A = ℕ} (slots * slotSize) 0 in
-          rw at.shelves-are
+          let zeros = length-replicate {A = ℕ} (slots * slot_size) 0 in
+          rw at.shelves_are
           (elim (ℕ_discrete i k) [
-            | yes here ↦ rw here (put-reads-back (slots * slotSize) shelves k (replicate (slots * slotSize) 0) inside zeros)
-            | no other ↦ put-keeps-others (slots * slotSize) shelves k (replicate (slots * slotSize) 0) inside zeros i other (opened_inside shelves i long (omega arith)) ∙ so.shelf-is i (omega arith)
+            | yes here ↦ rw here (put_reads_back (slots * slot_size) shelves k (replicate (slots * slot_size) 0) inside zeros)
+            | no other ↦ put_keeps_others (slots * slot_size) shelves k (replicate (slots * slot_size) 0) inside zeros i other (opened_inside shelves i long (omega arith)) ∙ so.shelf_is i (omega arith)
           ])
 
 -- ---- the session
 
-module _ (walk : Walk) (shelves : List ℕ) (seats-most : walk.n ≤ 16) (few : walk.slots ≤ slotsMost) (no-sends : walk.sends ≡ 0) (no-letters : walk.letters ≡ 0)
-    (senders-long : length walk.senders ≡ 256) (numbers-long : length walk.numbers ≡ 256) (all : AllOpened walk.n walk.n walk.slots walk.seats shelves) where
-  opened-session : (packets : List ℕ) → sessionIn walk shelves packets ≡ opened walk.n walk.slots
-  unfolding sessionIn opened list_of
-  opened-session packets =
+module _ (walk : Walk) (shelves : List ℕ) (seats_within_most : walk.n ≤ 16) (few : walk.slots ≤ slots_most) (no-sends : walk.sends ≡ 0) (no-letters : walk.letters ≡ 0)
+    (senders_long : length walk.senders ≡ 256) (numbers_long : length walk.numbers ≡ 256) (all : AllOpened walk.n walk.n walk.slots walk.seats shelves) where
+  opened_session : (packets : List ℕ) → session_in walk shelves packets ≡ opened walk.n walk.slots
+  unfolding session_in opened list_of
+  opened_session packets =
       (λ p. record {
         n = walk.n;
         sends = no-sends p;
-        places = same-listOf walk.n (place_in walk shelves) (λ i. openedPlace walk.n walk.slots (suc i)) each p;
-        letters = list_of (no-letters p) (letterIn walk packets);
+        places = same_list_of walk.n (place_in walk shelves) (λ i. opened_place walk.n walk.slots (suc i)) each p;
+        letters = list_of (no-letters p) (letter_in walk packets);
       })
     where
-      each : (i : ℕ) → i < walk.n → place_in walk shelves i ≡ openedPlace walk.n walk.slots (suc i)
-      each i h = (λ p. record { seat = all.seat-is i h p; shelf = all.shelf-is i h p }) ∙ sym (opened-place walk.n walk.slots i h seats-most few)
+      each : (i : ℕ) → i < walk.n → place_in walk shelves i ≡ opened_place walk.n walk.slots (suc i)
+      each i h = (λ p. record { seat = all.seat_is i h p; shelf = all.shelf_is i h p }) ∙ sym (opened_place_is walk.n walk.slots i h seats_within_most few)
 
-  pub opened-walk : Bounded walk × ((packets : List ℕ) → sessionIn walk shelves packets ≡ opened walk.n walk.slots)
-  opened-walk = (
+  pub opened_walk : Bounded walk × ((packets : List ℕ) → session_in walk shelves packets ≡ opened walk.n walk.slots)
+  opened_walk = (
     record {
-      seats-most = seats-most;
-      slots-most = few;
-      letters-most = omega arith;
-      sends-most = omega arith;
-      same-session = λ i h. ap (λ (s : Seat). s.n) (all.seat-is i h);
-      seats-long = all.long;
-      senders-long = senders-long;
-      numbers-long = numbers-long;
+      seats_within_most = seats_within_most;
+      slots_within_most = few;
+      letters_most = omega arith;
+      sends_within_most = omega arith;
+      same_session = λ i h. ap (λ (s : Seat). s.n) (all.seat_is i h);
+      seats_long = all.long;
+      senders_long = senders_long;
+      numbers_long = numbers_long;
     },
-    opened-session,
+    opened_session,
   )

@@ -10,19 +10,19 @@ use native.Mathlib.Omega.{arith}
 use lib.Dec.{leb}
 use lib.ListN.{length, take, drop, length-append, length-take}
 use lib.Seq.{sets, sets-eq, take_at, take_all, length-take-le, length-sets, take-append-add, get_or-take}
-use Rattle.lines.specs.Lines.{lines_of, read_step, readOpening}
-use Rattle.lines.specs.Kept.{lineMost, NoFeed, firstLine, otherLines}
-use Rattle.lines.specs.AnswerLine.{answerMost, Wrote}
+use Rattle.lines.specs.Lines.{lines_of, read_step, read_opening}
+use Rattle.lines.specs.Kept.{line_most, NoFeed, first_line, other_lines}
+use Rattle.lines.specs.AnswerLine.{answer_most, Wrote}
 use Rattle.lines.specs.declared.Opening.{Opening}
 use Rattle.lines.specs.declared.Opening.TheVariants as opening
 use Rattle.lines.specs.declared.Step.{Step}
-use Rattle.lines.proofs.LongLines.{long-step, long-opening}
-use Rattle.lines.proofs.AnswerLength.{answer-line-short}
-use Rattle.lines.proofs.Cut.{cut-first, no-feed-none}
-use Rattle.steps.specs.Session.{Session, stepTold, opened}
-use Rattle.steps.specs.Memory.{sessionIn, Bounded, Walks}
-use Rattle.steps.specs.Printed.{line_of, walked, badFirst, walkedFrom, printedLines, printed}
-use Rattle.steps.specs.Course.{lineIn, forLines, still, Ready, EndedAs, KeptMore, LineTaken}
+use Rattle.lines.proofs.LongLines.{long_step, long_opening}
+use Rattle.lines.proofs.AnswerLength.{answer_line_short}
+use Rattle.lines.proofs.Cut.{cut_first, no_feed_none}
+use Rattle.steps.specs.Session.{Session, step_told, opened}
+use Rattle.steps.specs.Memory.{session_in, Bounded, Walks}
+use Rattle.steps.specs.Printed.{line_of, walked, bad_first, walked_from, printed_lines, printed}
+use Rattle.steps.specs.Course.{line_in, for_lines, still, Ready, EndedAs, KeptMore, LineTaken}
 use Rattle.steps.specs.declared.list.Line.{Line}
 use Rattle.steps.specs.declared.list.Stage.{Stage}
 use Rattle.steps.specs.declared.list.Stage.TheVariants.{First, Walking, Ended}
@@ -32,9 +32,9 @@ use Rattle.steps.specs.declared.walk.Walk.{Walk}
 use Rattle.steps.specs.declared.walk.Walked.{Walked}
 
 -- what was written stands behind what stood there
-pub wrote-prints : {out after bytes : List ℕ} {at next : ℕ} → Wrote out at bytes next after → at + length bytes ≤ length out
+pub wrote_prints : {out after bytes : List ℕ} {at next : ℕ} → Wrote out at bytes next after → at + length bytes ≤ length out
     → take next after ≡ take at out ++ bytes
-wrote-prints {out} {after} {bytes} {at} {next} wrote room =
+wrote_prints {out} {after} {bytes} {at} {next} wrote room =
     let front = take at out ++ bytes in
     let long : length front ≡ next = length-append (take at out) bytes ∙ ap (λ (k : ℕ). k + length bytes) (length-take-le at out (omega arith)) ∙ sym wrote.ends in
     ap (take next) (wrote.holds ∙ sets-eq bytes out at room) ∙ take_at front (drop (at + length bytes) out) next long
@@ -42,29 +42,29 @@ wrote-prints {out} {after} {bytes} {at} {next} wrote room =
 -- ---- a line after the first
 
 module _ (number at end : ℕ) (out out-left line : List ℕ) (before : Session) (walk : Walk) (shelves packets : List ℕ) (now-walked : Walked) (step : Step)
-    (is : step ≡ read_step line) (so : Walks (stepTold before step) now-walked shelves packets)
-    (wrote : Wrote out at (line_of number now-walked.report) end out-left) (short : length (line_of number now-walked.report) ≤ answerMost) (room : at + answerMost ≤ length out) where
-  pub step-prints : (lines : List (List ℕ))
-      → take end out-left ++ forLines Walking (number + 1) (sessionIn now-walked.walk shelves packets) lines ≡ take at out ++ walked number before (line ∷ lines)
-  unfolding forLines walked
-  step-prints lines =
-      (λ p. wrote-prints wrote (omega arith) p ++ walked (add-one number p) (so.session-is p) lines)
-      ∙ append_assoc (take at out) (line_of number now-walked.report) (walked (suc number) (stepTold before step).session lines)
-      ∙ (λ p. take at out ++ (line_of number (so.report-is p) ++ walked (suc number) (stepTold before step).session lines))
-      ∙ (λ p. take at out ++ (line_of number (stepTold before (is p)).report ++ walked (suc number) (stepTold before (is p)).session lines))
+    (is : step ≡ read_step line) (so : Walks (step_told before step) now-walked shelves packets)
+    (wrote : Wrote out at (line_of number now-walked.report) end out-left) (short : length (line_of number now-walked.report) ≤ answer_most) (room : at + answer_most ≤ length out) where
+  pub step_prints : (lines : List (List ℕ))
+      → take end out-left ++ for_lines Walking (number + 1) (session_in now-walked.walk shelves packets) lines ≡ take at out ++ walked number before (line ∷ lines)
+  unfolding for_lines walked
+  step_prints lines =
+      (λ p. wrote_prints wrote (omega arith) p ++ walked (add-one number p) (so.session_is p) lines)
+      ∙ append_assoc (take at out) (line_of number now-walked.report) (walked (suc number) (step_told before step).session lines)
+      ∙ (λ p. take at out ++ (line_of number (so.report_is p) ++ walked (suc number) (step_told before step).session lines))
+      ∙ (λ p. take at out ++ (line_of number (step_told before (is p)).report ++ walked (suc number) (step_told before (is p)).session lines))
 
-pub step-taken : (number at : ℕ) (out line : List ℕ) (before : Session) {end : ℕ} {out-left shelves packets : List ℕ} (now-walked : Walked) (step : Step) → step ≡ read_step line
-    → Walks (stepTold before step) now-walked shelves packets → Wrote out at (line_of number now-walked.report) end out-left → length (line_of number now-walked.report) ≤ answerMost
-    → at + answerMost ≤ length out → (fresh : Line) → fresh.length ≡ 0 → length fresh.bytes ≡ lineMost
+pub step_taken : (number at : ℕ) (out line : List ℕ) (before : Session) {end : ℕ} {out-left shelves packets : List ℕ} (now-walked : Walked) (step : Step) → step ≡ read_step line
+    → Walks (step_told before step) now-walked shelves packets → Wrote out at (line_of number now-walked.report) end out-left → length (line_of number now-walked.report) ≤ answer_most
+    → at + answer_most ≤ length out → (fresh : Line) → fresh.length ≡ 0 → length fresh.bytes ≡ line_most
     → LineTaken number (λ lines. walked number before (line ∷ lines)) out at
     (record { course = record { stage = Walking; number = number + 1; line = fresh; walk = now-walked.walk }; end = end }) shelves packets out-left
-unfolding forLines walked
-step-taken number at out line before {end} {out-left} {shelves} {packets} now-walked step is so wrote short room fresh none long =
+unfolding for_lines walked
+step_taken number at out line before {end} {out-left} {shelves} {packets} now-walked step is so wrote short room fresh none long =
     record {
-      prints = step-prints number at end out out-left line before now-walked.walk shelves packets now-walked step is so wrote short room;
+      prints = step_prints number at end out out-left line before now-walked.walk shelves packets now-walked step is so wrote short room;
       no_more = refl;
       fresh = none;
-      line-long = long;
+      line_long = long;
       bounded = so.bounded;
       low = omega (arith, wrote.ends);
       high = omega (arith, wrote.ends);
@@ -73,22 +73,22 @@ step-taken number at out line before {end} {out-left} {shelves} {packets} now-wa
 
 -- ---- line one
 
-pub good-opening : (n slots : ℕ) (lines : List (List ℕ)) → (leb 1 n && leb n 16 && leb slots 8) ≡ true → walkedFrom (opening.Session n slots) lines ≡ walked 1 (opened n slots) lines
-good-opening n slots lines so = rw so
+pub good_opening : (n slots : ℕ) (lines : List (List ℕ)) → (leb 1 n && leb n 16 && leb slots 8) ≡ true → walked_from (opening.Session n slots) lines ≡ walked 1 (opened n slots) lines
+good_opening n slots lines so = rw so
 
-pub bad-opening : (n slots : ℕ) (lines : List (List ℕ)) → (leb 1 n && leb n 16 && leb slots 8) ≡ false → walkedFrom (opening.Session n slots) lines ≡ badFirst
-bad-opening n slots lines so = rw so
+pub bad_opening : (n slots : ℕ) (lines : List (List ℕ)) → (leb 1 n && leb n 16 && leb slots 8) ≡ false → walked_from (opening.Session n slots) lines ≡ bad_first
+bad_opening n slots lines so = rw so
 
 -- the same line taken, where the same is printed before it
-pub taken-alike : {number : ℕ} {before other : List (List ℕ) → List ℕ} {out : List ℕ} {at : ℕ} {taken : Taken} {shelves packets out-left : List ℕ}
+pub taken_alike : {number : ℕ} {before other : List (List ℕ) → List ℕ} {out : List ℕ} {at : ℕ} {taken : Taken} {shelves packets out-left : List ℕ}
     → ((lines : List (List ℕ)) → before lines ≡ other lines) → LineTaken number before out at taken shelves packets out-left
     → LineTaken number other out at taken shelves packets out-left
-taken-alike {out = out} {at = at} alike so =
+taken_alike {out = out} {at = at} alike so =
     record {
       prints = λ lines. so.prints lines ∙ ap (λ (l : List ℕ). take at out ++ l) (alike lines);
       no_more = so.no_more;
       fresh = so.fresh;
-      line-long = so.line-long;
+      line_long = so.line_long;
       bounded = so.bounded;
       low = so.low;
       high = so.high;
@@ -96,36 +96,36 @@ taken-alike {out = out} {at = at} alike so =
     }
 
 -- a bad first line ends the list
-pub list-refused : {number at end : ℕ} {out out-left : List ℕ} {walk : Walk} {course : Course} {shelves packets : List ℕ} → Wrote out at badFirst end out-left → EndedAs walk course
-    → Bounded walk → at + answerMost ≤ length out → LineTaken number (λ lines. badFirst) out at (record { course = course; end = end }) shelves packets out-left
-list-refused {at = at} {out = out} {course = course} {shelves = shelves} {packets = packets} wrote ended bounded room =
+pub list_refused : {number at end : ℕ} {out out-left : List ℕ} {walk : Walk} {course : Course} {shelves packets : List ℕ} → Wrote out at bad_first end out-left → EndedAs walk course
+    → Bounded walk → at + answer_most ≤ length out → LineTaken number (λ lines. bad_first) out at (record { course = course; end = end }) shelves packets out-left
+list_refused {at = at} {out = out} {course = course} {shelves = shelves} {packets = packets} wrote ended bounded room =
     record {
       prints = λ lines.
-          (λ p. wrote-prints wrote (omega (arith, short)) p ++ ended.nothing shelves packets lines p)
-          ∙ append-nil (take at out ++ badFirst);
+          (λ p. wrote_prints wrote (omega (arith, short)) p ++ ended.nothing shelves packets lines p)
+          ∙ append-nil (take at out ++ bad_first);
       no_more = ended.nothing shelves packets [];
       fresh = ended.fresh;
-      line-long = ended.line-long;
+      line_long = ended.line_long;
       bounded = subst Bounded (sym ended.walk_is) bounded;
       low = omega (arith, wrote.ends);
       high = omega (arith, wrote.ends, short);
       counts = omega (arith, ended.number_is);
     }
   where
-    short : length badFirst ≤ answerMost
-    short = answer-line-short (record { number_fits = omega arith; answer-fits = omega arith; sender-fits = omega arith; edit-fits = omega arith })
+    short : length bad_first ≤ answer_most
+    short = answer_line_short (record { number_fits = omega arith; answer_fits = omega arith; sender_fits = omega arith; edit_fits = omega arith })
 
 -- line one is good
-pub list-begun : (session : Session) (number at : ℕ) (line : Line) (walk : Walk) → line.length ≡ 0 → length line.bytes ≡ lineMost → Bounded walk → (packets out : List ℕ) {shelves : List ℕ}
-    → sessionIn walk shelves packets ≡ session
+pub list_begun : (session : Session) (number at : ℕ) (line : Line) (walk : Walk) → line.length ≡ 0 → length line.bytes ≡ line_most → Bounded walk → (packets out : List ℕ) {shelves : List ℕ}
+    → session_in walk shelves packets ≡ session
     → LineTaken number (walked 1 session) out at (record { course = record { stage = Walking; number = 1; line = line; walk = walk }; end = at }) shelves packets out
-unfolding forLines walked
-list-begun session number at line walk fresh long bounded packets out is =
+unfolding for_lines walked
+list_begun session number at line walk fresh long bounded packets out is =
     record {
       prints = λ lines. λ p. take at out ++ walked 1 (is p) lines;
       no_more = refl;
       fresh = fresh;
-      line-long = long;
+      line_long = long;
       bounded = bounded;
       low = omega arith;
       high = omega arith;
@@ -133,40 +133,40 @@ list-begun session number at line walk fresh long bounded packets out is =
     }
 
 -- nothing has come, and all is to be printed
-pub started : (line : Line) (walk : Walk) → line.length ≡ 0 → length line.bytes ≡ lineMost → Bounded walk
+pub started : (line : Line) (walk : Walk) → line.length ≡ 0 → length line.bytes ≡ line_most → Bounded walk
     → Ready (record { stage = First; number = 0; line = line; walk = walk }) × (◌≡◌ {A = ℕ} 0 0)
     × ((shelves packets text : List ℕ) → still (record { stage = First; number = 0; line = line; walk = walk }) shelves packets text ≡ printed text)
-unfolding still forLines
+unfolding still for_lines
 started line walk fresh long bounded =
-    (record { bounded = bounded; short = omega arith; long = long; no-feed = subst NoFeed (sym none) no-feed-none }, refl, λ shelves packets text. λ p. printedLines (lines_of (none p ++ text)))
+    (record { bounded = bounded; short = omega arith; long = long; no_feed = subst NoFeed (sym none) no_feed_none }, refl, λ shelves packets text. λ p. printed_lines (lines_of (none p ++ text)))
   where
-    none : lineIn line ≡ []
+    none : line_in line ≡ []
     none = λ p. take (fresh p) line.bytes
 
 -- ---- a line, whichever it is
 
 module _ (stage : Stage) (number : ℕ) (session : Session) (line : List ℕ) (lines : List (List ℕ)) where
-  pub first-line : stage ≡ First → walkedFrom (readOpening line) lines ≡ forLines stage number session (line ∷ lines)
-  unfolding forLines printedLines
-  first-line is = λ p. forLines (sym is p) number session (line ∷ lines)
+  pub first_line_is : stage ≡ First → walked_from (read_opening line) lines ≡ for_lines stage number session (line ∷ lines)
+  unfolding for_lines printed_lines
+  first_line_is is = λ p. for_lines (sym is p) number session (line ∷ lines)
 
-  pub walking_line : stage ≡ Walking → walked number session (line ∷ lines) ≡ forLines stage number session (line ∷ lines)
-  unfolding forLines
-  walking_line is = λ p. forLines (sym is p) number session (line ∷ lines)
+  pub walking_line : stage ≡ Walking → walked number session (line ∷ lines) ≡ for_lines stage number session (line ∷ lines)
+  unfolding for_lines
+  walking_line is = λ p. for_lines (sym is p) number session (line ∷ lines)
 
-  pub ended-line : stage ≡ Ended → [] ≡ forLines stage number session (line ∷ lines)
-  unfolding forLines
-  ended-line is = λ p. forLines (sym is p) number session (line ∷ lines)
+  pub ended_line : stage ≡ Ended → [] ≡ for_lines stage number session (line ∷ lines)
+  unfolding for_lines
+  ended_line is = λ p. for_lines (sym is p) number session (line ∷ lines)
 
 -- a list that has ended goes on with nothing
-pub list-ended : {number : ℕ} {before : List (List ℕ) → List ℕ} (at : ℕ) (out : List ℕ) {walk : Walk} {course : Course} {shelves packets : List ℕ} → EndedAs walk course → Bounded walk
+pub list_ended : {number : ℕ} {before : List (List ℕ) → List ℕ} (at : ℕ) (out : List ℕ) {walk : Walk} {course : Course} {shelves packets : List ℕ} → EndedAs walk course → Bounded walk
     → ((lines : List (List ℕ)) → [] ≡ before lines) → LineTaken number before out at (record { course = course; end = at }) shelves packets out
-list-ended at out {course = course} {shelves = shelves} {packets = packets} ended bounded none =
+list_ended at out {course = course} {shelves = shelves} {packets = packets} ended bounded none =
     record {
       prints = λ lines. ap (λ (l : List ℕ). take at out ++ l) (ended.nothing shelves packets lines ∙ none lines);
       no_more = ended.nothing shelves packets [];
       fresh = ended.fresh;
-      line-long = ended.line-long;
+      line_long = ended.line_long;
       bounded = subst Bounded (sym ended.walk_is) bounded;
       low = omega arith;
       high = omega arith;
@@ -176,53 +176,53 @@ list-ended at out {course = course} {shelves = shelves} {packets = packets} ende
 -- ---- a line that is kept only so far
 
 -- a line that is too long is printed like any other that is
-long-alike : (stage : Stage) (number : ℕ) (session : Session) (one other : List ℕ) (lines : List (List ℕ)) → lineMost ≤ length one → lineMost ≤ length other
-    → forLines stage number session (one ∷ lines) ≡ forLines stage number session (other ∷ lines)
-unfolding forLines printedLines walked
-long-alike First number session one other lines long-one long-other =
-    ap (λ (o : Opening). walkedFrom o lines) (long-opening one long-one ∙ sym (long-opening other long-other))
-long-alike Walking number session one other lines long-one long-other =
-    ap (λ (s : Step). line_of number (stepTold session s).report ++ walked (suc number) (stepTold session s).session lines) (long-step one long-one ∙ sym (long-step other long-other))
-long-alike Ended number session one other lines long-one long-other = refl
+long_alike : (stage : Stage) (number : ℕ) (session : Session) (one other : List ℕ) (lines : List (List ℕ)) → line_most ≤ length one → line_most ≤ length other
+    → for_lines stage number session (one ∷ lines) ≡ for_lines stage number session (other ∷ lines)
+unfolding for_lines printed_lines walked
+long_alike First number session one other lines long-one long-other =
+    ap (λ (o : Opening). walked_from o lines) (long_opening one long-one ∙ sym (long_opening other long-other))
+long_alike Walking number session one other lines long-one long-other =
+    ap (λ (s : Step). line_of number (step_told session s).report ++ walked (suc number) (step_told session s).session lines) (long_step one long-one ∙ sym (long_step other long-other))
+long_alike Ended number session one other lines long-one long-other = refl
 
-pub no-feed-start : (p : List ℕ) (n : ℕ) → NoFeed p → NoFeed (take n p)
-no-feed-start p n so =
+pub no_feed_start : (p : List ℕ) (n : ℕ) → NoFeed p → NoFeed (take n p)
+no_feed_start p n so =
     record {
       none = λ k h e.
           let below : k < n = omega (arith, length-take n p) in
           so.none k (omega (arith, length-take n p)) (sym (get_or-take n p k 0 below) ∙ e);
     }
 
-pub kept-alike : (stage : Stage) (number : ℕ) (session : Session) (p text : List ℕ) → NoFeed p
-    → forLines stage number session (lines_of (take lineMost p ++ text)) ≡ forLines stage number session (lines_of (p ++ text))
-kept-alike stage number session p text so =
-    elim (dec_le (length p) lineMost) [
-      | yes short ↦ ap (λ (l : List ℕ). forLines stage number session (lines_of (l ++ text))) (take_all lineMost p short)
-      | no long ↦ let kept : length (take lineMost p) ≡ lineMost = length-take-le lineMost p (omega arith) in
-          ap (forLines stage number session) (cut-first (take lineMost p) text (no-feed-start p lineMost so) (omega arith))
-          ∙ long-alike stage number session (take lineMost p ++ firstLine text) (p ++ firstLine text) (otherLines text)
-          (omega (arith, length-append (take lineMost p) (firstLine text))) (omega (arith, length-append p (firstLine text)))
-          ∙ sym (ap (forLines stage number session) (cut-first p text so (omega arith)))
+pub kept_alike : (stage : Stage) (number : ℕ) (session : Session) (p text : List ℕ) → NoFeed p
+    → for_lines stage number session (lines_of (take line_most p ++ text)) ≡ for_lines stage number session (lines_of (p ++ text))
+kept_alike stage number session p text so =
+    elim (dec_le (length p) line_most) [
+      | yes short ↦ ap (λ (l : List ℕ). for_lines stage number session (lines_of (l ++ text))) (take_all line_most p short)
+      | no long ↦ let kept : length (take line_most p) ≡ line_most = length-take-le line_most p (omega arith) in
+          ap (for_lines stage number session) (cut_first (take line_most p) text (no_feed_start p line_most so) (omega arith))
+          ∙ long_alike stage number session (take line_most p ++ first_line text) (p ++ first_line text) (other_lines text)
+          (omega (arith, length-append (take line_most p) (first_line text))) (omega (arith, length-append p (first_line text)))
+          ∙ sym (ap (for_lines stage number session) (cut_first p text so (omega arith)))
     ]
 
 -- as much of the text as there is room for
-kept-part : (room m : ℕ) (text : List ℕ) → m ≡ min room (length text) → take m text ≡ take room text
-kept-part room m text is =
+kept_part : (room m : ℕ) (text : List ℕ) → m ≡ min room (length text) → take m text ≡ take room text
+kept_part room m text is =
     elim (dec_le room (length text)) [
       | yes more ↦ ap (λ (k : ℕ). take k text) (is ∙ min-eq_left more)
       | no all ↦ ap (λ (k : ℕ). take k text) (is ∙ min-eq_right (omega arith)) ∙ take_all (length text) text (omega arith) ∙ sym (take_all room text (omega arith))
     ]
 
-pub kept_more : (line : Line) (text bytes : List ℕ) (m : ℕ) → line.length ≤ lineMost → length line.bytes ≡ lineMost → m ≡ min (lineMost - line.length) (length text)
+pub kept_more : (line : Line) (text bytes : List ℕ) (m : ℕ) → line.length ≤ line_most → length line.bytes ≡ line_most → m ≡ min (line_most - line.length) (length text)
     → bytes ≡ sets line.bytes line.length (take m text) → KeptMore line text (record { bytes = bytes; length = line.length + m })
 kept_more line text bytes m short long is put =
     let there : length (take m text) ≡ m = length-take-le m text (omega (arith, is)) in
     let front : length (take line.length line.bytes) ≡ line.length = length-take-le line.length line.bytes (omega arith) in
     let wrote : Wrote line.bytes line.length (take m text) (line.length + m) bytes = record { ends = omega arith; holds = put } in
-    let e : lineMost ≡ length (take line.length line.bytes) + (lineMost - line.length) = omega arith in
+    let e : line_most ≡ length (take line.length line.bytes) + (line_most - line.length) = omega arith in
     record {
-      line-is = wrote-prints wrote (omega (arith, is)) ∙ ap (λ (l : List ℕ). lineIn line ++ l) (kept-part (lineMost - line.length) m text is)
-          ∙ sym (ap (λ (k : ℕ). take k (lineIn line ++ text)) e ∙ take-append-add (lineIn line) text (lineMost - line.length));
+      line_is = wrote_prints wrote (omega (arith, is)) ∙ ap (λ (l : List ℕ). line_in line ++ l) (kept_part (line_most - line.length) m text is)
+          ∙ sym (ap (λ (k : ℕ). take k (line_in line ++ text)) e ∙ take-append-add (line_in line) text (line_most - line.length));
       short = omega (arith, is);
       long = ap length put ∙ length-sets line.bytes line.length (take m text) ∙ long;
     }

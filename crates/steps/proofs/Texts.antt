@@ -10,24 +10,24 @@ use borrow.Author.Tests.{eqb-true, eqb-false}
 use lib.Dec.{eqb}
 use lib.ListN.{length, get_or, take, drop, length-append, length-take, length-drop, take-append-drop, get_or-append}
 use lib.Seq.{length-take-le, take_all, drop-length, drop-drop, drop-cons, get_or-take, get_or-drop, get_or-append-add}
-use Rattle.lines.specs.Lines.{lineFeed, lines_of, words, readNumbers}
-use Rattle.lines.specs.Kept.{lineMost, NoFeed}
-use Rattle.lines.specs.AnswerLine.{answerMost}
-use Rattle.lines.proofs.Cut.{cut-feed, cut-last, no-feed-none}
+use Rattle.lines.specs.Lines.{line_feed, lines_of, words, read_numbers}
+use Rattle.lines.specs.Kept.{line_most, NoFeed}
+use Rattle.lines.specs.AnswerLine.{answer_most}
+use Rattle.lines.proofs.Cut.{cut_feed, cut_last, no_feed_none}
 use Rattle.steps.specs.Session.{Session}
-use Rattle.steps.specs.Memory.{sessionIn}
-use Rattle.steps.specs.Printed.{walked, printedLines}
-use Rattle.steps.specs.Course.{lineIn, forLines, forCourse, still, Ready, LineEnd, KeptMore, LineTaken, TextTaken, PieceTaken, doneAt, isDone, Finished}
+use Rattle.steps.specs.Memory.{session_in}
+use Rattle.steps.specs.Printed.{walked, printed_lines}
+use Rattle.steps.specs.Course.{line_in, for_lines, for_course, still, Ready, LineEnd, KeptMore, LineTaken, TextTaken, PieceTaken, done_at, is_done, Finished}
 use Rattle.steps.specs.declared.list.Line.{Line}
 use Rattle.steps.specs.declared.list.Stage.{Stage}
 use Rattle.steps.specs.declared.list.Stage.TheVariants.{First, Walking, Ended}
 use Rattle.steps.specs.declared.list.Course.{Course}
 use Rattle.steps.specs.declared.list.Taken.{Taken}
 use Rattle.steps.specs.declared.list.Went.{Went}
-use Rattle.steps.proofs.Printing.{kept-alike, no-feed-start}
+use Rattle.steps.proofs.Printing.{kept_alike, no_feed_start}
 
-no-feed-joined : (p q : List ℕ) → NoFeed p → NoFeed q → NoFeed (p ++ q)
-no-feed-joined p q one other =
+no_feed_joined : (p q : List ℕ) → NoFeed p → NoFeed q → NoFeed (p ++ q)
+no_feed_joined p q one other =
     record {
       none = λ k h e.
           elim (dec_lt k (length p)) [
@@ -48,45 +48,45 @@ module _ (course : Course) (text : List ℕ) (from feed : ℕ) (next : Line) (re
   abbrev after : Course
   after = record { stage = course.stage; number = course.number; line = next; walk = course.walk }
 
-  part-no-feed : NoFeed (take (feed - from) (drop from text))
-  part-no-feed =
+  part_no_feed : NoFeed (take (feed - from) (drop from text))
+  part_no_feed =
       record {
         none = λ k h e.
             let below : k < feed - from = omega (arith, length-take (feed - from) (drop from text)) in
-            ends.no-feed (from + k) (omega arith) (omega arith)
+            ends.no_feed (from + k) (omega arith) (omega arith)
             (sym (get_or-take (feed - from) (drop from text) k 0 below ∙ get_or-drop from text k 0) ∙ e);
       }
 
-  line-no-feed : NoFeed (lineIn course.line ++ take (feed - from) (drop from text))
-  line-no-feed = no-feed-joined _ _ ready.no-feed part-no-feed
+  line_no_feed : NoFeed (line_in course.line ++ take (feed - from) (drop from text))
+  line_no_feed = no_feed_joined _ _ ready.no_feed part_no_feed
 
-  pub kept-ready : Ready after
-  kept-ready =
+  pub kept_ready : Ready after
+  kept_ready =
       record {
         bounded = ready.bounded;
         short = kept.short;
         long = kept.long;
-        no-feed = subst NoFeed (sym kept.line-is) (no-feed-start _ lineMost line-no-feed);
+        no_feed = subst NoFeed (sym kept.line_is) (no_feed_start _ line_most line_no_feed);
       }
 
-  kept-still : (shelves packets rest : List ℕ) → still after shelves packets rest ≡ still course shelves packets (part ++ rest)
+  kept_still : (shelves packets rest : List ℕ) → still after shelves packets rest ≡ still course shelves packets (part ++ rest)
   unfolding still
-  kept-still shelves packets rest =
-      let session = sessionIn course.walk shelves packets in
-      ap (λ (l : List ℕ). forLines course.stage course.number session (lines_of (l ++ rest))) kept.line-is
-      ∙ kept-alike course.stage course.number session (lineIn course.line ++ part) rest line-no-feed
-      ∙ ap (λ (l : List ℕ). forLines course.stage course.number session (lines_of l)) (append_assoc (lineIn course.line) part rest)
+  kept_still shelves packets rest =
+      let session = session_in course.walk shelves packets in
+      ap (λ (l : List ℕ). for_lines course.stage course.number session (lines_of (l ++ rest))) kept.line_is
+      ∙ kept_alike course.stage course.number session (line_in course.line ++ part) rest line_no_feed
+      ∙ ap (λ (l : List ℕ). for_lines course.stage course.number session (lines_of l)) (append_assoc (line_in course.line) part rest)
 
   module _ (shelves packets out : List ℕ) (at : ℕ) where
-    pub piece-ends : from < length text → feed ≡ length text
+    pub piece_ends : from < length text → feed ≡ length text
         → TextTaken course text from shelves packets out at (record { course = after; end = at; next = feed }) shelves packets out
-    piece-ends some e =
+    piece_ends some e =
         record {
           prints = λ rest.
               (λ p. take at out ++ still after shelves packets (gone p ++ rest))
-              ∙ ap (λ (l : List ℕ). take at out ++ l) (kept-still shelves packets rest)
+              ∙ ap (λ (l : List ℕ). take at out ++ l) (kept_still shelves packets rest)
               ∙ (λ p. take at out ++ still course shelves packets (whole p ++ rest));
-          ready = kept-ready;
+          ready = kept_ready;
           further = omega arith;
           inside = omega arith;
           high = omega arith;
@@ -99,23 +99,23 @@ module _ (course : Course) (text : List ℕ) (from feed : ℕ) (next : Line) (re
         whole : take (feed - from) (drop from text) ≡ drop from text
         whole = take_all (feed - from) (drop from text) (omega (arith, length-drop from text))
 
-    pub line-ends : (taken : Taken) (shelves-left packets-left out-left : List ℕ) → feed < length text
-        → LineTaken course.number (λ lines. forCourse after shelves packets (lineIn next ∷ lines)) out at taken shelves-left packets-left out-left
+    pub line_ends : (taken : Taken) (shelves-left packets-left out-left : List ℕ) → feed < length text
+        → LineTaken course.number (λ lines. for_course after shelves packets (line_in next ∷ lines)) out at taken shelves-left packets-left out-left
         → TextTaken course text from shelves packets out at (record { course = taken.course; end = taken.end; next = feed + 1 }) shelves-left packets-left out-left
     unfolding still
-    line-ends taken shelves-left packets-left out-left there so =
+    line_ends taken shelves-left packets-left out-left there so =
         record {
           prints = λ rest.
-              (λ p. take taken.end out-left ++ forCourse taken.course shelves-left packets-left (lines_of (none p ++ (drop (feed + 1) text ++ rest))))
+              (λ p. take taken.end out-left ++ for_course taken.course shelves-left packets-left (lines_of (none p ++ (drop (feed + 1) text ++ rest))))
               ∙ so.prints (lines_of (drop (feed + 1) text ++ rest))
-              ∙ ap (λ (l : List (List ℕ)). take at out ++ forCourse after shelves packets l) (sym (cut-feed (lineIn next) (drop (feed + 1) text ++ rest) kept-ready.no-feed))
-              ∙ ap (λ (l : List ℕ). take at out ++ l) (kept-still shelves packets (lineFeed ∷ (drop (feed + 1) text ++ rest)))
-              ∙ ap (λ (l : List ℕ). take at out ++ still course shelves packets l) (sym (append_assoc part (lineFeed ∷ drop (feed + 1) text) rest) ∙ ap (λ (l : List ℕ). l ++ rest) (sym split));
+              ∙ ap (λ (l : List (List ℕ)). take at out ++ for_course after shelves packets l) (sym (cut_feed (line_in next) (drop (feed + 1) text ++ rest) kept_ready.no_feed))
+              ∙ ap (λ (l : List ℕ). take at out ++ l) (kept_still shelves packets (line_feed ∷ (drop (feed + 1) text ++ rest)))
+              ∙ ap (λ (l : List ℕ). take at out ++ still course shelves packets l) (sym (append_assoc part (line_feed ∷ drop (feed + 1) text) rest) ∙ ap (λ (l : List ℕ). l ++ rest) (sym split));
           ready = record {
             bounded = so.bounded;
             short = omega (arith, so.fresh);
-            long = so.line-long;
-            no-feed = subst NoFeed (sym none) no-feed-none;
+            long = so.line_long;
+            no_feed = subst NoFeed (sym none) no_feed_none;
           };
           further = omega (arith, ends.low);
           inside = omega arith;
@@ -123,16 +123,16 @@ module _ (course : Course) (text : List ℕ) (from feed : ℕ) (next : Line) (re
           counts = so.counts;
         }
       where
-        none : lineIn taken.course.line ≡ []
+        none : line_in taken.course.line ≡ []
         none = λ p. take (so.fresh p) taken.course.line.bytes
 
-        split : drop from text ≡ part ++ (lineFeed ∷ drop (feed + 1) text)
+        split : drop from text ≡ part ++ (line_feed ∷ drop (feed + 1) text)
         split =
             let e : from + (feed - from) ≡ feed = omega (arith, ends.low) in
             sym (take-append-drop (feed - from) (drop from text))
             ∙ ap (λ (l : List ℕ). part ++ l)
             (drop-drop (feed - from) from text ∙ ap (λ (k : ℕ). drop k text) e ∙ drop-cons text feed 0 there
-            ∙ (λ p. ends.at-feed there p ∷ drop (sym (add-one feed) p) text))
+            ∙ (λ p. ends.at_feed there p ∷ drop (sym (add-one feed) p) text))
 
 -- ---- a whole piece
 
@@ -141,14 +141,14 @@ pub record Going (course : Course) (text shelves₀ packets₀ : List ℕ) (room
   pub inside : from ≤ length text
   pub prints : (rest : List ℕ) → take end out ++ still now shelves packets (drop from text ++ rest) ≡ still course shelves₀ packets₀ (text ++ rest)
   pub ready : Ready now
-  pub high : end ≤ answerMost * from
+  pub high : end ≤ answer_most * from
   pub counts : now.number ≤ course.number + from
-  pub same-room : length out ≡ room
+  pub same_room : length out ≡ room
 
 module _ (course : Course) (text shelves₀ packets₀ out₀ : List ℕ) where
   pub nothing_yet : Ready course → Going course text shelves₀ packets₀ (length out₀) shelves₀ packets₀ out₀ course 0 0
   nothing_yet ready =
-      record { inside = omega arith; prints = λ rest. refl; ready = ready; high = omega arith; counts = omega arith; same-room = refl }
+      record { inside = omega arith; prints = λ rest. refl; ready = ready; high = omega arith; counts = omega arith; same_room = refl }
 
   pub goes_further : (shelves packets out : List ℕ) (now : Course) (end from : ℕ) (went : Went) (shelves-left packets-left out-left : List ℕ)
       → Going course text shelves₀ packets₀ (length out₀) shelves packets out now end from
@@ -161,13 +161,13 @@ module _ (course : Course) (text shelves₀ packets₀ out₀ : List ℕ) where
         ready = more.ready;
         high = omega (arith, more.high, so.high, more.further);
         counts = omega (arith, more.counts, so.counts, more.further);
-        same-room = long ∙ so.same-room;
+        same_room = long ∙ so.same_room;
       }
 
-  pub all-taken : (shelves packets out : List ℕ) (now : Course) (end from : ℕ) → length text ≤ from
+  pub all_taken : (shelves packets out : List ℕ) (now : Course) (end from : ℕ) → length text ≤ from
       → Going course text shelves₀ packets₀ (length out₀) shelves packets out now end from
       → PieceTaken course text shelves₀ packets₀ (record { course = now; end = end }) shelves packets out
-  all-taken shelves packets out now end from past so =
+  all_taken shelves packets out now end from past so =
       let e : from ≡ length text = omega (arith, so.inside) in
       record {
         prints = λ rest. (λ p. take end out ++ still now shelves packets (sym (ap (λ (k : ℕ). drop k text) e ∙ drop-length text) p ++ rest)) ∙ so.prints rest;
@@ -182,52 +182,52 @@ never : {A : Type 0} → ◌≡◌ {A = Bool} false true → A
 never so = absurd (let z : ◌≡◌ {A = ℕ} 0 1 = cc in omega arith)
 
 module _ (number : ℕ) (session : Session) (kept : ℕ) (bytes : List ℕ) where
-  nothing_left : (stage : Stage) → doneAt stage kept ≡ true → forLines stage number session (lines_of (take kept bytes ++ [])) ≡ []
-  unfolding forLines walked lines_of
+  nothing_left : (stage : Stage) → done_at stage kept ≡ true → for_lines stage number session (lines_of (take kept bytes ++ [])) ≡ []
+  unfolding for_lines walked lines_of
   nothing_left First so = never so
   nothing_left Walking so = λ p. walked number session (lines_of (take (eqb-true kept 0 so p) bytes ++ []))
   nothing_left Ended so = refl
 
-  module _ (no-feed : NoFeed (take kept bytes)) (short : kept ≤ length bytes) where
+  module _ (no_feed : NoFeed (take kept bytes)) (short : kept ≤ length bytes) where
     some_left : 0 < length (take kept bytes) → (stage : Stage)
-        → forLines stage number session (take kept bytes ∷ []) ≡ forLines stage number session (lines_of (take kept bytes ++ []))
+        → for_lines stage number session (take kept bytes ∷ []) ≡ for_lines stage number session (lines_of (take kept bytes ++ []))
     some_left some stage =
-        ap (forLines stage number session) (sym (ap lines_of (append-nil (take kept bytes)) ∙ cut-last (take kept bytes) no-feed some))
+        ap (for_lines stage number session) (sym (ap lines_of (append-nil (take kept bytes)) ∙ cut_last (take kept bytes) no_feed some))
 
-    kept-some : eqb kept 0 ≡ false → 0 < length (take kept bytes)
-    kept-some so = let other = eqb-false kept 0 so in omega (arith, length-take-le kept bytes short)
+    kept_some : eqb kept 0 ≡ false → 0 < length (take kept bytes)
+    kept_some so = let other = eqb-false kept 0 so in omega (arith, length-take-le kept bytes short)
 
-    last_line : (stage : Stage) → doneAt stage kept ≡ false
-        → forLines stage number session (take kept bytes ∷ []) ≡ forLines stage number session (lines_of (take kept bytes ++ []))
-    unfolding forLines printedLines lines_of readNumbers words
-    last_line Walking so = some_left (kept-some so) Walking
-    last_line Ended so = some_left (kept-some so) Ended
+    last_line : (stage : Stage) → done_at stage kept ≡ false
+        → for_lines stage number session (take kept bytes ∷ []) ≡ for_lines stage number session (lines_of (take kept bytes ++ []))
+    unfolding for_lines printed_lines lines_of read_numbers words
+    last_line Walking so = some_left (kept_some so) Walking
+    last_line Ended so = some_left (kept_some so) Ended
     last_line First so =
         elim (dec_lt 0 (length (take kept bytes))) [
           | yes some ↦ some_left some First
           | no none ↦ let e : kept ≡ 0 = omega (arith, length-take-le kept bytes short) in
-              (λ p. printedLines (take (e p) bytes ∷ [])) ∙ sym (λ p. printedLines (lines_of (take (e p) bytes ++ [])))
+              (λ p. printed_lines (take (e p) bytes ∷ [])) ∙ sym (λ p. printed_lines (lines_of (take (e p) bytes ++ [])))
         ]
 
 module _ (course : Course) (shelves packets : List ℕ) where
-  pub done-finished : (out : List ℕ) → isDone course ≡ true → Finished course shelves packets 0 out
+  pub done_finished : (out : List ℕ) → is_done course ≡ true → Finished course shelves packets 0 out
   unfolding still
-  done-finished out so =
+  done_finished out so =
       record {
-        prints = sym (nothing_left course.number (sessionIn course.walk shelves packets) course.line.length course.line.bytes course.stage so);
+        prints = sym (nothing_left course.number (session_in course.walk shelves packets) course.line.length course.line.bytes course.stage so);
         high = omega arith;
       }
 
-  pub line-finished : (out : List ℕ) (taken : Taken) (shelves-left packets-left out-left : List ℕ) → Ready course → isDone course ≡ false
-      → LineTaken course.number (λ lines. forCourse course shelves packets (lineIn course.line ∷ lines)) out 0 taken shelves-left packets-left out-left
+  pub line_finished : (out : List ℕ) (taken : Taken) (shelves-left packets-left out-left : List ℕ) → Ready course → is_done course ≡ false
+      → LineTaken course.number (λ lines. for_course course shelves packets (line_in course.line ∷ lines)) out 0 taken shelves-left packets-left out-left
       → Finished course shelves packets taken.end out-left
   unfolding still
-  line-finished out taken shelves-left packets-left out-left ready so line =
+  line_finished out taken shelves-left packets-left out-left ready so line =
       record {
         prints =
             sym (append-nil (take taken.end out-left))
             ∙ (λ p. take taken.end out-left ++ sym line.no_more p)
             ∙ line.prints []
-            ∙ last_line course.number (sessionIn course.walk shelves packets) course.line.length course.line.bytes ready.no-feed (omega (arith, ready.short, ready.long)) course.stage so;
+            ∙ last_line course.number (session_in course.walk shelves packets) course.line.length course.line.bytes ready.no_feed (omega (arith, ready.short, ready.long)) course.stage so;
         high = omega (arith, line.high);
       }

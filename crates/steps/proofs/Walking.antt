@@ -11,167 +11,167 @@ use Rattle.answers.specs.Answers.{bare, report}
 use Rattle.answers.specs.declared.Answer.{Answer}
 use Rattle.answers.specs.declared.Answer.TheVariants.{Opened, Done, Shelved, NothingReady, Refused}
 use Rattle.vectors.proofs.Every.{and_both}
-use Rattle.packet.specs.Packet.{past_of, barrierOf}
-use Rattle.seat.specs.Sending.{seatAfter}
-use Rattle.seat.specs.HandingOver.{handOver}
-use Rattle.seat.specs.Arriving.{headingOf, arriveAnswer, shelfAfter}
-use Rattle.seat.specs.Releasing.{chosenPacket, releaseAnswer, shelfAfterRelease}
+use Rattle.packet.specs.Packet.{past_of, barrier_of}
+use Rattle.seat.specs.Sending.{seat_after}
+use Rattle.seat.specs.HandingOver.{hand_over}
+use Rattle.seat.specs.Arriving.{heading_of, arrive_answer, shelf_after}
+use Rattle.seat.specs.Releasing.{chosen_packet, release_answer, shelf_after_release}
 use Rattle.seat.specs.declared.Seat.{Seat}
-use Rattle.seat.proofs.HandedOver.{handing-over-keeps-seats}
-use Rattle.steps.specs.Session.{Letter, Told, unknown, seated, place_of, withPlace, letterAt, found, arrived, arrivedPacket, arriveTold, released, releaseTold}
-use Rattle.steps.specs.Memory.{withPiece, shelfSize, seatIn, shelfIn, place_in, packetIn, sessionIn, shelvesSize, Bounded, Walks, isSeated, foundIn, walkedTo, ArrivedAt, ReleasedAt}
+use Rattle.seat.proofs.HandedOver.{handing_over_keeps_seats}
+use Rattle.steps.specs.Session.{Letter, Told, unknown, seated, place_of, with_place, letter_at, found, arrived, arrived_packet, arrive_told, released, release_told}
+use Rattle.steps.specs.Memory.{with_piece, shelf_size, seat_in, shelf_in, place_in, packet_in, session_in, shelves_size, Bounded, Walks, is_seated, found_in, walked_to, ArrivedAt, ReleasedAt}
 use Rattle.steps.specs.declared.walk.Walk.{Walk}
 use Rattle.steps.specs.declared.walk.Walked.{Walked}
-use Rattle.steps.proofs.Held.{back-as-long, shelf-inside, place-held, letters-held, letter-held, found-held, session-after, still-bounded}
+use Rattle.steps.proofs.Held.{back_as_long, shelf_inside, place_held, letters_held, letter_held, found_held, session_after, still_bounded}
 
 -- a seat that steps stays in its session
-pub steps-in-session : (answer : Answer) (next seat : Seat) → next.n ≡ seat.n → (seatAfter answer next seat).n ≡ seat.n
-steps-in-session (Done edit) next seat same = same
-steps-in-session Opened next seat same = refl
-steps-in-session Shelved next seat same = refl
-steps-in-session NothingReady next seat same = refl
-steps-in-session (Refused refusal) next seat same = refl
+pub steps_in_session : (answer : Answer) (next seat : Seat) → next.n ≡ seat.n → (seat_after answer next seat).n ≡ seat.n
+steps_in_session (Done edit) next seat same = same
+steps_in_session Opened next seat same = refl
+steps_in_session Shelved next seat same = refl
+steps_in_session NothingReady next seat same = refl
+steps_in_session (Refused refusal) next seat same = refl
 
-pub seated-is : (walk : Walk) (k : ℕ) → isSeated walk k ≡ true → (1 ≤ k) × (k ≤ walk.n)
-seated-is walk k so = let both = and_both (leb 1 k) (leb k walk.n) so in (leb-true 1 k both.0, leb-true k walk.n both.1)
+pub seated_is : (walk : Walk) (k : ℕ) → is_seated walk k ≡ true → (1 ≤ k) × (k ≤ walk.n)
+seated_is walk k so = let both = and_both (leb 1 k) (leb k walk.n) so in (leb-true 1 k both.0, leb-true k walk.n both.1)
 
-pub is-seated : (walk : Walk) (shelves packets : List ℕ) (k : ℕ) → isSeated walk k ≡ true → seated (sessionIn walk shelves packets) k ≡ true
-unfolding sessionIn
-is-seated walk shelves packets k so = so
+pub is_seated_lem : (walk : Walk) (shelves packets : List ℕ) (k : ℕ) → is_seated walk k ≡ true → seated (session_in walk shelves packets) k ≡ true
+unfolding session_in
+is_seated_lem walk shelves packets k so = so
 
 -- 21, and nothing has changed
-pub unknown-walks : (walk : Walk) (shelves packets : List ℕ) (told : Told) (walked : Walked) → Bounded walk
-    → told ≡ unknown (sessionIn walk shelves packets) → walked ≡ record { walk = walk; report = bare 21 } → Walks told walked shelves packets
-unknown-walks walk shelves packets told walked bounded so is =
+pub unknown_walks : (walk : Walk) (shelves packets : List ℕ) (told : Told) (walked : Walked) → Bounded walk
+    → told ≡ unknown (session_in walk shelves packets) → walked ≡ record { walk = walk; report = bare 21 } → Walks told walked shelves packets
+unknown_walks walk shelves packets told walked bounded so is =
     record {
-      report-is = ap (λ (w : Walked). w.report) is ∙ sym (ap (λ (t : Told). t.report) so);
-      session-is = ap (λ (w : Walked). sessionIn w.walk shelves packets) is ∙ sym (ap (λ (t : Told). t.session) so);
+      report_is = ap (λ (w : Walked). w.report) is ∙ sym (ap (λ (t : Told). t.report) so);
+      session_is = ap (λ (w : Walked). session_in w.walk shelves packets) is ∙ sym (ap (λ (t : Told). t.session) so);
       bounded = subst (λ (w : Walked). Bounded w.walk) (sym is) bounded;
     }
 
 -- a call at one seat, which leaves another state and shelf there
-module _ (walk : Walk) (bounded : Bounded walk) (shelves packets : List ℕ) (shelves-long : length shelves ≡ shelvesSize)
+module _ (walk : Walk) (bounded : Bounded walk) (shelves packets : List ℕ) (shelves-long : length shelves ≡ shelves_size)
     (k : ℕ) (low : 1 ≤ k) (high : k ≤ walk.n) where
-  pub call-walks : (seat : Seat) (shelf : List ℕ) (answer : Answer) (walked : Walked) (shelves-left : List ℕ) (told : Told)
-      → seat.n ≡ (seatIn walk (k - 1)).n
-      → walked ≡ walkedTo walk (k - 1) seat answer
-      → shelves-left ≡ withPiece (shelfSize walk) shelves (k - 1) shelf
+  pub call_walks : (seat : Seat) (shelf : List ℕ) (answer : Answer) (walked : Walked) (shelves-left : List ℕ) (told : Told)
+      → seat.n ≡ (seat_in walk (k - 1)).n
+      → walked ≡ walked_to walk (k - 1) seat answer
+      → shelves-left ≡ with_piece (shelf_size walk) shelves (k - 1) shelf
       → length shelves-left ≡ length shelves
-      → told ≡ record { report = report answer; session = withPlace (sessionIn walk shelves packets) k (record { seat = seat; shelf = shelf }) }
+      → told ≡ record { report = report answer; session = with_place (session_in walk shelves packets) k (record { seat = seat; shelf = shelf }) }
       → Walks told walked shelves-left packets
-  call-walks seat shelf answer walked shelves-left told same is left long so =
+  call_walks seat shelf answer walked shelves-left told same is left long so =
       record {
-        report-is = ap (λ (w : Walked). w.report) is ∙ sym (ap (λ (t : Told). t.report) so);
-        session-is =
-            (λ p. sessionIn (is p).walk (left p) packets)
-            ∙ session-after walk shelves packets (k - 1) seat shelf (omega arith) bounded.seats-most bounded.seats-long inside as_long
-            (λ j h. shelf-inside walk bounded shelves j shelves-long h) k refl
+        report_is = ap (λ (w : Walked). w.report) is ∙ sym (ap (λ (t : Told). t.report) so);
+        session_is =
+            (λ p. session_in (is p).walk (left p) packets)
+            ∙ session_after walk shelves packets (k - 1) seat shelf (omega arith) bounded.seats_within_most bounded.seats_long inside as_long
+            (λ j h. shelf_inside walk bounded shelves j shelves-long h) k refl
             ∙ sym (ap (λ (t : Told). t.session) so);
         bounded = subst (λ (w : Walked). Bounded w.walk) (sym is)
-            (still-bounded walk bounded (k - 1) seat (same ∙ bounded.same-session (k - 1) (omega arith)));
+            (still_bounded walk bounded (k - 1) seat (same ∙ bounded.same_session (k - 1) (omega arith)));
       }
     where
-      inside : shelfSize walk * (k - 1) + shelfSize walk ≤ length shelves
-      inside = shelf-inside walk bounded shelves (k - 1) shelves-long (omega arith)
+      inside : shelf_size walk * (k - 1) + shelf_size walk ≤ length shelves
+      inside = shelf_inside walk bounded shelves (k - 1) shelves-long (omega arith)
 
-      as_long : length shelf ≡ shelfSize walk
-      as_long = back-as-long (shelfSize walk) (k - 1) shelves shelf inside (sym (ap length left) ∙ long)
+      as_long : length shelf ≡ shelf_size walk
+      as_long = back_as_long (shelf_size walk) (k - 1) shelves shelf inside (sym (ap length left) ∙ long)
 
 -- ---- an arrival
 
 both_hold : (a b : Bool) (x y : Told) → a ≡ true → b ≡ true → cond (a && b) x y ≡ x
 both_hold a b x y ha hb = (λ p. cond (ha p && hb p) x y)
 
-second-fails : (a b : Bool) (x y : Told) → b ≡ false → cond (a && b) x y ≡ y
-second-fails true b x y hb = λ p. cond (hb p) x y
-second-fails false b x y hb = refl
+second_fails : (a b : Bool) (x y : Told) → b ≡ false → cond (a && b) x y ≡ y
+second_fails true b x y hb = λ p. cond (hb p) x y
+second_fails false b x y hb = refl
 
 module _ (walk : Walk) (shelves packets : List ℕ) (k sender number : ℕ) where
-  pub nobody-there : isSeated walk k ≡ false → arriveTold (sessionIn walk shelves packets) k sender number ≡ unknown (sessionIn walk shelves packets)
-  unfolding arriveTold sessionIn
-  nobody-there so = rw so
+  pub nobody_there : is_seated walk k ≡ false → arrive_told (session_in walk shelves packets) k sender number ≡ unknown (session_in walk shelves packets)
+  unfolding arrive_told session_in
+  nobody_there so = rw so
 
-  test-held : ltb (found (sessionIn walk shelves packets) sender number) (length (sessionIn walk shelves packets).letters) ≡ ltb (foundIn walk sender number) walk.letters
-  test-held = λ p. ltb (found-held walk shelves packets sender number p) (letters-held walk shelves packets p)
+  test_held : ltb (found (session_in walk shelves packets) sender number) (length (session_in walk shelves packets).letters) ≡ ltb (found_in walk sender number) walk.letters
+  test_held = λ p. ltb (found_held walk shelves packets sender number p) (letters_held walk shelves packets p)
 
-  pub nothing-there : foundIn walk sender number ≡ walk.letters
-      → arriveTold (sessionIn walk shelves packets) k sender number ≡ unknown (sessionIn walk shelves packets)
-  unfolding arriveTold
-  nothing-there none =
-      let session = sessionIn walk shelves packets in
-      second-fails (seated session k) _ (arrivedPacket session k (letterAt session (found session sender number)).bytes) _
-      (test-held ∙ le-ltb (foundIn walk sender number) walk.letters (omega arith))
+  pub nothing_there : found_in walk sender number ≡ walk.letters
+      → arrive_told (session_in walk shelves packets) k sender number ≡ unknown (session_in walk shelves packets)
+  unfolding arrive_told
+  nothing_there none =
+      let session = session_in walk shelves packets in
+      second_fails (seated session k) _ (arrived_packet session k (letter_at session (found session sender number)).bytes) _
+      (test_held ∙ le-ltb (found_in walk sender number) walk.letters (omega arith))
 
   arriving : Told
   arriving =
-      arrived (sessionIn walk shelves packets) k (place_in walk shelves (k - 1)) (packetIn walk packets (foundIn walk sender number))
-      (arriveAnswer (seatIn walk (k - 1)) (shelfIn walk shelves (k - 1)) (packetIn walk packets (foundIn walk sender number)))
+      arrived (session_in walk shelves packets) k (place_in walk shelves (k - 1)) (packet_in walk packets (found_in walk sender number))
+      (arrive_answer (seat_in walk (k - 1)) (shelf_in walk shelves (k - 1)) (packet_in walk packets (found_in walk sender number)))
 
-  module _ (so : isSeated walk k ≡ true) (there : foundIn walk sender number < walk.letters) where
-    place : place_of (sessionIn walk shelves packets) k ≡ place_in walk shelves (k - 1)
-    place = place-held walk shelves packets k (seated-is walk k so).0 (seated-is walk k so).1
+  module _ (so : is_seated walk k ≡ true) (there : found_in walk sender number < walk.letters) where
+    place : place_of (session_in walk shelves packets) k ≡ place_in walk shelves (k - 1)
+    place = place_held walk shelves packets k (seated_is walk k so).0 (seated_is walk k so).1
 
-    packet : (letterAt (sessionIn walk shelves packets) (found (sessionIn walk shelves packets) sender number)).bytes ≡ packetIn walk packets (foundIn walk sender number)
+    packet : (letter_at (session_in walk shelves packets) (found (session_in walk shelves packets) sender number)).bytes ≡ packet_in walk packets (found_in walk sender number)
     packet =
-        ap (λ (i : ℕ). (letterAt (sessionIn walk shelves packets) i).bytes) (found-held walk shelves packets sender number)
-        ∙ ap (λ (l : Letter). l.bytes) (letter-held walk shelves packets (foundIn walk sender number) there)
+        ap (λ (i : ℕ). (letter_at (session_in walk shelves packets) i).bytes) (found_held walk shelves packets sender number)
+        ∙ ap (λ (l : Letter). l.bytes) (letter_held walk shelves packets (found_in walk sender number) there)
 
-    packet-there : arriveTold (sessionIn walk shelves packets) k sender number ≡ arriving
-    unfolding arriveTold arriving
-    packet-there =
-        both_hold _ _ _ _ (is-seated walk shelves packets k so) (test-held ∙ lt-ltb _ _ there)
-        ∙ (λ p. arrived (sessionIn walk shelves packets) k (place p) (packet p) (arriveAnswer (place p).seat (place p).shelf (packet p)))
+    packet_there : arrive_told (session_in walk shelves packets) k sender number ≡ arriving
+    unfolding arrive_told arriving
+    packet_there =
+        both_hold _ _ _ _ (is_seated_lem walk shelves packets k so) (test_held ∙ lt-ltb _ _ there)
+        ∙ (λ p. arrived (session_in walk shelves packets) k (place p) (packet p) (arrive_answer (place p).seat (place p).shelf (packet p)))
 
-  pub arrival-walks : Bounded walk → length shelves ≡ shelvesSize → isSeated walk k ≡ true → foundIn walk sender number < walk.letters
-      → (walked : Walked) (shelves-left : List ℕ) → ArrivedAt walk (k - 1) (packetIn walk packets (foundIn walk sender number)) shelves walked shelves-left
+  pub arrival_walks : Bounded walk → length shelves ≡ shelves_size → is_seated walk k ≡ true → found_in walk sender number < walk.letters
+      → (walked : Walked) (shelves-left : List ℕ) → ArrivedAt walk (k - 1) (packet_in walk packets (found_in walk sender number)) shelves walked shelves-left
       → length shelves-left ≡ length shelves
-      → Walks (arriveTold (sessionIn walk shelves packets) k sender number) walked shelves-left packets
+      → Walks (arrive_told (session_in walk shelves packets) k sender number) walked shelves-left packets
   unfolding arriving arrived
-  arrival-walks bounded shelves-long so there walked shelves-left at long =
-      let packet = packetIn walk packets (foundIn walk sender number) in
-      let seat = seatIn walk (k - 1) in
-      let answer = arriveAnswer seat (shelfIn walk shelves (k - 1)) packet in
-      call-walks walk bounded shelves packets shelves-long k (seated-is walk k so).0 (seated-is walk k so).1
-      (seatAfter answer (handOver seat (headingOf packet) (past_of packet) (barrierOf packet)) seat) (shelfAfter answer packet (shelfIn walk shelves (k - 1)))
+  arrival_walks bounded shelves-long so there walked shelves-left at long =
+      let packet = packet_in walk packets (found_in walk sender number) in
+      let seat = seat_in walk (k - 1) in
+      let answer = arrive_answer seat (shelf_in walk shelves (k - 1)) packet in
+      call_walks walk bounded shelves packets shelves-long k (seated_is walk k so).0 (seated_is walk k so).1
+      (seat_after answer (hand_over seat (heading_of packet) (past_of packet) (barrier_of packet)) seat) (shelf_after answer packet (shelf_in walk shelves (k - 1)))
       answer walked shelves-left _
-      (steps-in-session answer _ seat (handing-over-keeps-seats seat (headingOf packet) (past_of packet) (barrierOf packet)))
-      at.walked-is at.shelves-are long (packet-there so there)
+      (steps_in_session answer _ seat (handing_over_keeps_seats seat (heading_of packet) (past_of packet) (barrier_of packet)))
+      at.walked_is at.shelves_are long (packet_there so there)
 
 -- ---- a release
 
 module _ (walk : Walk) (shelves packets : List ℕ) (k : ℕ) where
-  pub nobody-releases : isSeated walk k ≡ false → releaseTold (sessionIn walk shelves packets) k ≡ unknown (sessionIn walk shelves packets)
-  unfolding releaseTold sessionIn
-  nobody-releases so = rw so
+  pub nobody_releases : is_seated walk k ≡ false → release_told (session_in walk shelves packets) k ≡ unknown (session_in walk shelves packets)
+  unfolding release_told session_in
+  nobody_releases so = rw so
 
   releasing : Told
   releasing =
-      released (sessionIn walk shelves packets) k (place_in walk shelves (k - 1)) (chosenPacket (seatIn walk (k - 1)) (shelfIn walk shelves (k - 1)))
-      (releaseAnswer (seatIn walk (k - 1)) (shelfIn walk shelves (k - 1)) [])
+      released (session_in walk shelves packets) k (place_in walk shelves (k - 1)) (chosen_packet (seat_in walk (k - 1)) (shelf_in walk shelves (k - 1)))
+      (release_answer (seat_in walk (k - 1)) (shelf_in walk shelves (k - 1)) [])
 
-  somebody-releases : isSeated walk k ≡ true → releaseTold (sessionIn walk shelves packets) k ≡ releasing
-  unfolding releaseTold releasing
-  somebody-releases so =
-      let place = place-held walk shelves packets k (seated-is walk k so).0 (seated-is walk k so).1 in
-      (λ p. cond (seated-held p)
-      (released (sessionIn walk shelves packets) k (place p) (chosenPacket (place p).seat (place p).shelf) (releaseAnswer (place p).seat (place p).shelf []))
-      (unknown (sessionIn walk shelves packets)))
+  somebody_releases : is_seated walk k ≡ true → release_told (session_in walk shelves packets) k ≡ releasing
+  unfolding release_told releasing
+  somebody_releases so =
+      let place = place_held walk shelves packets k (seated_is walk k so).0 (seated_is walk k so).1 in
+      (λ p. cond (seated_held p)
+      (released (session_in walk shelves packets) k (place p) (chosen_packet (place p).seat (place p).shelf) (release_answer (place p).seat (place p).shelf []))
+      (unknown (session_in walk shelves packets)))
     where
-      seated-held : seated (sessionIn walk shelves packets) k ≡ true
-      seated-held = is-seated walk shelves packets k so
+      seated_held : seated (session_in walk shelves packets) k ≡ true
+      seated_held = is_seated_lem walk shelves packets k so
 
-  pub release-walks : Bounded walk → length shelves ≡ shelvesSize → isSeated walk k ≡ true
+  pub release_walks : Bounded walk → length shelves ≡ shelves_size → is_seated walk k ≡ true
       → (walked : Walked) (shelves-left : List ℕ) → ReleasedAt walk (k - 1) shelves walked shelves-left
       → length shelves-left ≡ length shelves
-      → Walks (releaseTold (sessionIn walk shelves packets) k) walked shelves-left packets
+      → Walks (release_told (session_in walk shelves packets) k) walked shelves-left packets
   unfolding releasing released
-  release-walks bounded shelves-long so walked shelves-left at long =
-      let seat = seatIn walk (k - 1) in
-      let shelf = shelfIn walk shelves (k - 1) in
-      let packet = chosenPacket seat shelf in
-      let answer = releaseAnswer seat shelf [] in
-      call-walks walk bounded shelves packets shelves-long k (seated-is walk k so).0 (seated-is walk k so).1
-      (seatAfter answer (handOver seat (headingOf packet) (past_of packet) (barrierOf packet)) seat) (shelfAfterRelease answer seat shelf)
+  release_walks bounded shelves-long so walked shelves-left at long =
+      let seat = seat_in walk (k - 1) in
+      let shelf = shelf_in walk shelves (k - 1) in
+      let packet = chosen_packet seat shelf in
+      let answer = release_answer seat shelf [] in
+      call_walks walk bounded shelves packets shelves-long k (seated_is walk k so).0 (seated_is walk k so).1
+      (seat_after answer (hand_over seat (heading_of packet) (past_of packet) (barrier_of packet)) seat) (shelf_after_release answer seat shelf)
       answer walked shelves-left _
-      (steps-in-session answer _ seat (handing-over-keeps-seats seat (headingOf packet) (past_of packet) (barrierOf packet)))
-      at.walked-is at.shelves-are long (somebody-releases so)
+      (steps_in_session answer _ seat (handing_over_keeps_seats seat (heading_of packet) (past_of packet) (barrier_of packet)))
+      at.walked_is at.shelves_are long (somebody_releases so)

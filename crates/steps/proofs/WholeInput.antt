@@ -7,9 +7,9 @@ use native.Mathlib.Omega.{arith}
 use mathlib.Core.Bool.{true}
 use Rattle.lines.specs.Lines.{lines_of}
 use Rattle.steps.specs.Session.{Session}
-use Rattle.steps.specs.Memory.{sessionIn}
+use Rattle.steps.specs.Memory.{session_in}
 use Rattle.steps.specs.Printed.{printed}
-use Rattle.steps.specs.Course.{lineIn, forLines, still, is_over}
+use Rattle.steps.specs.Course.{line_in, for_lines, still, is_over}
 use Rattle.steps.specs.WholeInput.{Runs, starts, takes, EndsEarly, WholeInput}
 use Rattle.steps.specs.declared.list.Stage.{Stage}
 use Rattle.steps.specs.declared.list.Stage.TheVariants.{First, Walking, Ended}
@@ -25,21 +25,21 @@ so_far input course shelves packets output (takes {input = before} {course = ear
     ∙ so_far before earlier shelves₀ packets₀ printed-before run (piece ++ rest)
     ∙ ap (λ (l : List ℕ). printed l) (sym (append_assoc before piece rest))
 
-pub whole-input : WholeInput
-whole-input input course shelves packets output end out run finished =
+pub whole_input : WholeInput
+whole_input input course shelves packets output end out run finished =
     ap (λ (l : List ℕ). output ++ l) finished.prints
     ∙ so_far input course shelves packets output run []
     ∙ ap (λ (l : List ℕ). printed l) (append-nil input)
 
-nothing-more : (number : ℕ) (session : Session) (lines : List (List ℕ)) (stage : Stage) → is_over stage ≡ true → forLines stage number session lines ≡ []
-unfolding forLines
-nothing-more number session lines First so = absurd (let z : ◌≡◌ {A = ℕ} 0 1 = cc in omega arith)
-nothing-more number session lines Walking so = absurd (let z : ◌≡◌ {A = ℕ} 0 1 = cc in omega arith)
-nothing-more number session lines Ended so = refl
+nothing_more : (number : ℕ) (session : Session) (lines : List (List ℕ)) (stage : Stage) → is_over stage ≡ true → for_lines stage number session lines ≡ []
+unfolding for_lines
+nothing_more number session lines First so = absurd (let z : ◌≡◌ {A = ℕ} 0 1 = cc in omega arith)
+nothing_more number session lines Walking so = absurd (let z : ◌≡◌ {A = ℕ} 0 1 = cc in omega arith)
+nothing_more number session lines Ended so = refl
 
-pub ends-early : EndsEarly
+pub ends_early : EndsEarly
 unfolding still
-ends-early input course shelves packets output run over rest =
+ends_early input course shelves packets output run over rest =
     sym (append-nil output)
-    ∙ ap (λ (l : List ℕ). output ++ l) (sym (nothing-more course.number (sessionIn course.walk shelves packets) (lines_of (lineIn course.line ++ rest)) course.stage over))
+    ∙ ap (λ (l : List ℕ). output ++ l) (sym (nothing_more course.number (session_in course.walk shelves packets) (lines_of (line_in course.line ++ rest)) course.stage over))
     ∙ so_far input course shelves packets output run rest

@@ -1,12 +1,12 @@
 // A whole list, whose text comes in pieces. A line is kept only as far as a readable one can reach.
 ghost use Rattle.std.specs.Prelude.{◌≡◌, ℕ, ◌+◌, ◌*◌, ◌≤◌, ◌<◌, min, List, ◌∷◌, length};
-ghost use Rattle.lines.specs.Lines.{readOpening};
-ghost use Rattle.lines.specs.AnswerLine.{answerMost, Wrote};
-ghost use Rattle.lines.specs.Kept.{lineMost};
+ghost use Rattle.lines.specs.Lines.{read_opening};
+ghost use Rattle.lines.specs.AnswerLine.{answer_most, Wrote};
+ghost use Rattle.lines.specs.Kept.{line_most};
 ghost use Rattle.steps.specs.Session.{opened};
-ghost use Rattle.steps.specs.Memory.{sessionIn, slotsMost, shelvesSize, packetsSize, Bounded};
-ghost use Rattle.steps.specs.Printed.{line_of, badFirst, walkedFrom, walked, printed};
-ghost use Rattle.steps.specs.Course.{lineIn, forCourse, still, numberMost, isDone, is_over, Ready, EndedAs, LineEnd, KeptMore, LineTaken, TextTaken, PieceTaken, Finished};
+ghost use Rattle.steps.specs.Memory.{session_in, slots_most, shelves_size, packets_size, Bounded};
+ghost use Rattle.steps.specs.Printed.{line_of, bad_first, walked_from, walked, printed};
+ghost use Rattle.steps.specs.Course.{line_in, for_course, still, number_most, is_done, is_over, Ready, EndedAs, LineEnd, KeptMore, LineTaken, TextTaken, PieceTaken, Finished};
 
 use super::opening::{no_walk, open_session};
 use super::walk::{Walk, walk_step};
@@ -58,7 +58,7 @@ pub struct Went {
 }
 
 fn no_line() -> Line
-    ensures { (result.length ≡ 0) × (length result.bytes ≡ lineMost) }
+    ensures { (result.length ≡ 0) × (length result.bytes ≡ line_most) }
 {
     Line {
         bytes: [0; 20],
@@ -68,13 +68,13 @@ fn no_line() -> Line
 
 // The buffers, which have room for every session.
 pub fn no_shelves() -> [u8; 34304]
-    ensures { length result ≡ shelvesSize }
+    ensures { length result ≡ shelves_size }
 {
     [0; 34304]
 }
 
 pub fn no_packets() -> [u8; 17152]
-    ensures { length result ≡ packetsSize }
+    ensures { length result ≡ packets_size }
 {
     [0; 17152]
 }
@@ -104,8 +104,8 @@ fn ended(walk: Walk) -> Course
 
 // A bad first line ends the list.
 fn refuse_list(walk: Walk, out: &mut [u8], at: usize) -> Taken
-    requires { Bounded walk × (at + answerMost ≤ length out.old) }
-    ensures { (number : ℕ) (shelves packets : List ℕ) → LineTaken number (λ lines. badFirst) out.old at result shelves packets out.new }
+    requires { Bounded walk × (at + answer_most ≤ length out.old) }
+    ensures { (number : ℕ) (shelves packets : List ℕ) → LineTaken number (λ lines. bad_first) out.old at result shelves packets out.new }
 {
     let end = put_answer(out, at, 0, 21, 0, 0);
     Taken {
@@ -116,7 +116,7 @@ fn refuse_list(walk: Walk, out: &mut [u8], at: usize) -> Taken
 
 // The list goes on with line two.
 fn begin(n: u32, slots: u32, shelves: &mut [u8], at: usize) -> Taken
-    requires { (n ≤ 16) × (slots ≤ slotsMost) × (length shelves.old ≡ shelvesSize) }
+    requires { (n ≤ 16) × (slots ≤ slots_most) × (length shelves.old ≡ shelves_size) }
     ensures { (number : ℕ) (packets out : List ℕ) → LineTaken number (walked 1 (opened n slots)) out at result shelves.new packets out }
 {
     let walk = open_session(n as u8, slots as usize, shelves);
@@ -133,8 +133,8 @@ fn begin(n: u32, slots: u32, shelves: &mut [u8], at: usize) -> Taken
 
 // Line one.
 fn take_opening(walk: Walk, line: &[u8], shelves: &mut [u8], out: &mut [u8], at: usize) -> Taken
-    requires { Bounded walk × (length shelves.old ≡ shelvesSize) × (at + answerMost ≤ length out.old) }
-    ensures { (number : ℕ) (packets : List ℕ) → LineTaken number (walkedFrom (readOpening line.now)) out.old at result shelves.new packets out.new }
+    requires { Bounded walk × (length shelves.old ≡ shelves_size) × (at + answer_most ≤ length out.old) }
+    ensures { (number : ℕ) (packets : List ℕ) → LineTaken number (walked_from (read_opening line.now)) out.old at result shelves.new packets out.new }
 {
     let opening = read_opening(line);
     match opening {
@@ -150,8 +150,8 @@ fn take_opening(walk: Walk, line: &[u8], shelves: &mut [u8], out: &mut [u8], at:
 
 // The line of a step goes to the output.
 fn put_report(out: &mut [u8], at: usize, number: u64, report: Report) -> usize
-    requires { at + answerMost ≤ length out.old }
-    ensures { Wrote out.old at (line_of number report) result out.new × (length (line_of number report) ≤ answerMost) }
+    requires { at + answer_most ≤ length out.old }
+    ensures { Wrote out.old at (line_of number report) result out.new × (length (line_of number report) ≤ answer_most) }
 {
     let edit = report.edit;
     let sender = edit.sender;
@@ -169,8 +169,8 @@ fn take_step(
     out: &mut [u8],
     at: usize,
 ) -> Taken
-    requires { Bounded walk × (number < numberMost) × (length shelves.old ≡ shelvesSize) × (length packets.old ≡ packetsSize) × (at + answerMost ≤ length out.old) }
-    ensures { LineTaken number (λ lines. walked number (sessionIn walk shelves.old packets.old) (line.now ∷ lines)) out.old at result shelves.new packets.new out.new }
+    requires { Bounded walk × (number < number_most) × (length shelves.old ≡ shelves_size) × (length packets.old ≡ packets_size) × (at + answer_most ≤ length out.old) }
+    ensures { LineTaken number (λ lines. walked number (session_in walk shelves.old packets.old) (line.now ∷ lines)) out.old at result shelves.new packets.new out.new }
 {
     let walked = walk_step(walk, read_step(line), shelves, packets);
     let walk = walked.walk;
@@ -196,8 +196,8 @@ fn take_line(
     out: &mut [u8],
     at: usize,
 ) -> Taken
-    requires { Ready course × (course.number < numberMost) × (length shelves.old ≡ shelvesSize) × (length packets.old ≡ packetsSize) × (at + answerMost ≤ length out.old) }
-    ensures { LineTaken course.number (λ lines. forCourse course shelves.old packets.old (lineIn course.line ∷ lines)) out.old at result shelves.new packets.new out.new }
+    requires { Ready course × (course.number < number_most) × (length shelves.old ≡ shelves_size) × (length packets.old ≡ packets_size) × (at + answer_most ≤ length out.old) }
+    ensures { LineTaken course.number (λ lines. for_course course shelves.old packets.old (line_in course.line ∷ lines)) out.old at result shelves.new packets.new out.new }
 {
     let stage = course.stage;
     let number = course.number;
@@ -236,7 +236,7 @@ fn least(a: usize, b: usize) -> usize
 
 // The line with more text, as far as it is kept.
 fn keep(line: Line, text: &[u8]) -> Line
-    requires { (line.length ≤ lineMost) × (length line.bytes ≡ lineMost) }
+    requires { (line.length ≤ line_most) × (length line.bytes ≡ line_most) }
     ensures { KeptMore line text.now result }
 {
     let length = line.length;
@@ -259,7 +259,7 @@ fn take_text(
     out: &mut [u8],
     at: usize,
 ) -> Went
-    requires { Ready course × (course.number < numberMost) × (from < length text.now) × (length shelves.old ≡ shelvesSize) × (length packets.old ≡ packetsSize) × (at + answerMost ≤ length out.old) }
+    requires { Ready course × (course.number < number_most) × (from < length text.now) × (length shelves.old ≡ shelves_size) × (length packets.old ≡ packets_size) × (at + answer_most ≤ length out.old) }
     ensures { TextTaken course text.now from shelves.old packets.old out.old at result shelves.new packets.new out.new }
 {
     let feed = line_end(text, from);
@@ -299,7 +299,7 @@ pub fn take_piece(
     packets: &mut [u8],
     out: &mut [u8],
 ) -> Taken
-    requires { Ready course × (course.number + length text.now ≤ numberMost) × (length shelves.old ≡ shelvesSize) × (length packets.old ≡ packetsSize) × (answerMost * length text.now ≤ length out.old) }
+    requires { Ready course × (course.number + length text.now ≤ number_most) × (length shelves.old ≡ shelves_size) × (length packets.old ≡ packets_size) × (answer_most * length text.now ≤ length out.old) }
     ensures { PieceTaken course text.now shelves.old packets.old result shelves.new packets.new out.new }
 {
     let mut now = course;
@@ -316,7 +316,7 @@ pub fn take_piece(
 
 // The input has ended: text after the last line feed is a line too. The caller lends the same buffers.
 pub fn finish(course: Course, shelves: &mut [u8], packets: &mut [u8], out: &mut [u8]) -> usize
-    requires { Ready course × (course.number < numberMost) × (length shelves.old ≡ shelvesSize) × (length packets.old ≡ packetsSize) × (answerMost ≤ length out.old) }
+    requires { Ready course × (course.number < number_most) × (length shelves.old ≡ shelves_size) × (length packets.old ≡ packets_size) × (answer_most ≤ length out.old) }
     ensures { Finished course shelves.old packets.old result out.new }
 {
     if is_done(course) {
@@ -328,7 +328,7 @@ pub fn finish(course: Course, shelves: &mut [u8], packets: &mut [u8], out: &mut 
 
 // No line is left: line one has come, and nothing after the last line feed.
 fn is_done(course: Course) -> bool
-    ensures { result ≡ isDone course }
+    ensures { result ≡ is_done course }
 {
     let line = course.line;
     let stage = course.stage;

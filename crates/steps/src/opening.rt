@@ -1,8 +1,8 @@
 // Opening the session that line one names.
 ghost use Rattle.std.specs.Prelude.{◌≡◌, ℕ, ◌+◌, ◌*◌, ◌≤◌, ◌<◌, List, length};
-ghost use Rattle.shelf.specs.Shelf.{slotSize};
+ghost use Rattle.shelf.specs.Shelf.{slot_size};
 ghost use Rattle.steps.specs.Session.{opened};
-ghost use Rattle.steps.specs.Memory.{slotsMost, sessionIn, shelvesSize, Bounded, AllOpened, OpenedIn};
+ghost use Rattle.steps.specs.Memory.{slots_most, session_in, shelves_size, Bounded, AllOpened, OpenedIn};
 
 use super::walk::Walk;
 use answers::SeatNo;
@@ -23,7 +23,7 @@ fn nobody() -> Seat {
 
 // The seat at an index is opened: its number is one more.
 fn open_at(n: u8, slots: usize, at: usize, shelves: &mut [u8]) -> Seat
-    requires { (at < n) × (n ≤ 16) × (slots ≤ slotsMost) × (slots * slotSize * at + slots * slotSize ≤ length shelves.old) }
+    requires { (at < n) × (n ≤ 16) × (slots ≤ slots_most) × (slots * slot_size * at + slots * slot_size ≤ length shelves.old) }
     ensures { OpenedIn n slots at shelves.old result shelves.new }
 {
     let size = slots * SLOT_SIZE;
@@ -36,7 +36,7 @@ fn open_at(n: u8, slots: usize, at: usize, shelves: &mut [u8]) -> Seat
 
 // Seats 1 to n are opened.
 fn open_all(n: u8, slots: usize, shelves: &mut [u8]) -> [Seat; 16]
-    requires { (n ≤ 16) × (slots ≤ slotsMost) × (length shelves.old ≡ shelvesSize) }
+    requires { (n ≤ 16) × (slots ≤ slots_most) × (length shelves.old ≡ shelves_size) }
     ensures { AllOpened n n slots result shelves.new }
 {
     let mut seats = [nobody(); 16];
@@ -48,8 +48,8 @@ fn open_all(n: u8, slots: usize, shelves: &mut [u8]) -> [Seat; 16]
 
 // The session of n seats, each with a shelf of so many slots. The caller has found both to be in range.
 pub fn open_session(n: u8, slots: usize, shelves: &mut [u8]) -> Walk
-    requires { (n ≤ 16) × (slots ≤ slotsMost) × (length shelves.old ≡ shelvesSize) }
-    ensures { Bounded result × ((packets : List ℕ) → sessionIn result shelves.new packets ≡ opened n slots) }
+    requires { (n ≤ 16) × (slots ≤ slots_most) × (length shelves.old ≡ shelves_size) }
+    ensures { Bounded result × ((packets : List ℕ) → session_in result shelves.new packets ≡ opened n slots) }
 {
     let seats = open_all(n, slots, shelves);
     Walk {

@@ -2,8 +2,8 @@
 // called once the line's numbers were found to be in range.
 ghost use Rattle.std.specs.Prelude.{◌≡◌, ℕ, ◌+◌, ◌*◌, ◌≤◌, ◌<◌, List, length};
 ghost use Rattle.answers.specs.Answers.{bare};
-ghost use Rattle.steps.specs.Session.{sendTold, arriveTold, releaseTold, wishOf, stepTold};
-ghost use Rattle.steps.specs.Memory.{shelfSize, packetIn, sessionIn, packetsSize, shelvesSize, Bounded, Walks, isSeated, foundIn, withSeat, withLetter, withSend, walkedTo, SentEmpty, SentAt, ArrivedAt, ReleasedAt};
+ghost use Rattle.steps.specs.Session.{send_told, arrive_told, release_told, wish_of, step_told};
+ghost use Rattle.steps.specs.Memory.{shelf_size, packet_in, session_in, packets_size, shelves_size, Bounded, Walks, is_seated, found_in, with_seat, with_letter, with_send, walked_to, SentEmpty, SentAt, ArrivedAt, ReleasedAt};
 
 use answers::{Answer, Edit, EditNo, Report, SeatNo};
 use lines::{Letter, Step};
@@ -39,7 +39,7 @@ pub struct Walked {
 
 fn with_seat(walk: Walk, at: usize, seat: Seat) -> Walk
     requires { at < 16 }
-    ensures { result ≡ withSeat walk at seat }
+    ensures { result ≡ with_seat walk at seat }
 {
     let mut after = walk;
     after.seats[at] = seat;
@@ -49,7 +49,7 @@ fn with_seat(walk: Walk, at: usize, seat: Seat) -> Walk
 // The packet that was sent last is noted.
 fn with_letter(walk: Walk, answer: Answer) -> Walk
     requires { walk.letters < 256 }
-    ensures { result ≡ withLetter walk answer }
+    ensures { result ≡ with_letter walk answer }
 {
     match answer {
         Answer::Done(edit) => {
@@ -72,7 +72,7 @@ fn with_letter(walk: Walk, answer: Answer) -> Walk
 // The answer of a step at the seat at an index, and its next state.
 fn moved_on(walk: Walk, at: usize, stepped: Stepped) -> Walked
     requires { at < 16 }
-    ensures { result ≡ walkedTo walk at stepped.seat stepped.answer }
+    ensures { result ≡ walked_to walk at stepped.seat stepped.answer }
 {
     let seat = stepped.seat;
     let answer = stepped.answer;
@@ -90,7 +90,7 @@ fn send_empty(seat: Seat, wish: Wish, out: &mut [u8]) -> Stepped
 }
 
 fn send_at(walk: Walk, at: usize, wish: Wish, packets: &mut [u8]) -> Walked
-    requires { (at < 16) × (walk.letters < 256) × (length packets.old ≡ packetsSize) }
+    requires { (at < 16) × (walk.letters < 256) × (length packets.old ≡ packets_size) }
     ensures { SentAt walk at wish packets.old result packets.new }
 {
     let letters = walk.letters;
@@ -103,7 +103,7 @@ fn send_at(walk: Walk, at: usize, wish: Wish, packets: &mut [u8]) -> Walked
 }
 
 fn arrive_at(walk: Walk, at: usize, packet: &[u8], shelves: &mut [u8]) -> Walked
-    requires { (at < 16) × (walk.slots ≤ 8) × (shelfSize walk * at + shelfSize walk ≤ length shelves.old) }
+    requires { (at < 16) × (walk.slots ≤ 8) × (shelf_size walk * at + shelf_size walk ≤ length shelves.old) }
     ensures { ArrivedAt walk at packet.now shelves.old result shelves.new }
 {
     let size = walk.slots * SLOT_SIZE;
@@ -115,7 +115,7 @@ fn arrive_at(walk: Walk, at: usize, packet: &[u8], shelves: &mut [u8]) -> Walked
 }
 
 fn release_at(walk: Walk, at: usize, shelves: &mut [u8]) -> Walked
-    requires { (at < 16) × (walk.slots ≤ 8) × (shelfSize walk * at + shelfSize walk ≤ length shelves.old) }
+    requires { (at < 16) × (walk.slots ≤ 8) × (shelf_size walk * at + shelf_size walk ≤ length shelves.old) }
     ensures { ReleasedAt walk at shelves.old result shelves.new }
 {
     let size = walk.slots * SLOT_SIZE;
@@ -145,7 +145,7 @@ fn unknown(walk: Walk) -> Walked
 }
 
 fn is_seated(walk: Walk, seat: u32) -> bool
-    ensures { result ≡ isSeated walk seat }
+    ensures { result ≡ is_seated walk seat }
 {
     (1 <= seat) & (seat <= walk.n as u32)
 }
@@ -153,7 +153,7 @@ fn is_seated(walk: Walk, seat: u32) -> bool
 // The walk with one send line more.
 fn counted(walk: Walk) -> Walk
     requires { walk.sends < 256 }
-    ensures { result ≡ withSend walk }
+    ensures { result ≡ with_send walk }
 {
     let mut after = walk;
     after.sends = walk.sends + 1;
@@ -162,8 +162,8 @@ fn counted(walk: Walk) -> Walk
 
 // The seat sends an edit with no body.
 fn send(walk: Walk, seat: u32, wish: Wish, packets: &mut [u8]) -> Walked
-    requires { Bounded walk × (length packets.old ≡ packetsSize) }
-    ensures { (shelves : List ℕ) → Walks (sendTold (sessionIn walk shelves packets.old) seat wish) result shelves packets.new }
+    requires { Bounded walk × (length packets.old ≡ packets_size) }
+    ensures { (shelves : List ℕ) → Walks (send_told (session_in walk shelves packets.old) seat wish) result shelves packets.new }
 {
     if SENDS_MOST <= walk.sends {
         return unknown(walk);
@@ -179,7 +179,7 @@ fn send(walk: Walk, seat: u32, wish: Wish, packets: &mut [u8]) -> Walked
 // The packet that carries this edit, or the number of packets where there is none.
 fn find(walk: Walk, sender: u32, number: u32) -> usize
     requires { walk.letters ≤ 256 }
-    ensures { result ≡ foundIn walk sender number }
+    ensures { result ≡ found_in walk sender number }
 {
     let letters = walk.letters;
     for i in 0..letters {
@@ -192,8 +192,8 @@ fn find(walk: Walk, sender: u32, number: u32) -> usize
 
 // The packet at i, as long as the session's packets are.
 fn packet_at(walk: Walk, i: usize, packets: &[u8]) -> &[u8]
-    requires { (walk.n ≤ 16) × (i < 256) × (length packets.now ≡ packetsSize) }
-    ensures { result.now ≡ packetIn walk packets.now i }
+    requires { (walk.n ≤ 16) × (i < 256) × (length packets.now ≡ packets_size) }
+    ensures { result.now ≡ packet_in walk packets.now i }
 {
     let seats = walk.n as usize;
     let start = PACKET_MOST * i;
@@ -210,8 +210,8 @@ fn arrive(
     packets: &[u8],
     shelves: &mut [u8],
 ) -> Walked
-    requires { Bounded walk × (length packets.now ≡ packetsSize) × (length shelves.old ≡ shelvesSize) }
-    ensures { Walks (arriveTold (sessionIn walk shelves.old packets.now) seat sender number) result shelves.new packets.now }
+    requires { Bounded walk × (length packets.now ≡ packets_size) × (length shelves.old ≡ shelves_size) }
+    ensures { Walks (arrive_told (session_in walk shelves.old packets.now) seat sender number) result shelves.new packets.now }
 {
     if !is_seated(walk, seat) {
         return unknown(walk);
@@ -226,8 +226,8 @@ fn arrive(
 
 // The seat releases. Bodies are empty, and so is the output.
 fn release(walk: Walk, seat: u32, shelves: &mut [u8]) -> Walked
-    requires { Bounded walk × (length shelves.old ≡ shelvesSize) }
-    ensures { (packets : List ℕ) → Walks (releaseTold (sessionIn walk shelves.old packets) seat) result shelves.new packets }
+    requires { Bounded walk × (length shelves.old ≡ shelves_size) }
+    ensures { (packets : List ℕ) → Walks (release_told (session_in walk shelves.old packets) seat) result shelves.new packets }
 {
     if !is_seated(walk, seat) {
         return unknown(walk);
@@ -238,7 +238,7 @@ fn release(walk: Walk, seat: u32, shelves: &mut [u8]) -> Walked
 
 // A missing letter means usual.
 fn wish_of(letter: Letter) -> Wish
-    ensures { result ≡ wishOf letter }
+    ensures { result ≡ wish_of letter }
 {
     match letter {
         Letter::Ordinary => Wish::Ordinary,
@@ -249,8 +249,8 @@ fn wish_of(letter: Letter) -> Wish
 
 // A line after the first.
 pub fn walk_step(walk: Walk, step: Step, shelves: &mut [u8], packets: &mut [u8]) -> Walked
-    requires { Bounded walk × (length shelves.old ≡ shelvesSize) × (length packets.old ≡ packetsSize) }
-    ensures { Walks (stepTold (sessionIn walk shelves.old packets.old) step) result shelves.new packets.new }
+    requires { Bounded walk × (length shelves.old ≡ shelves_size) × (length packets.old ≡ packets_size) }
+    ensures { Walks (step_told (session_in walk shelves.old packets.old) step) result shelves.new packets.new }
 {
     match step {
         Step::Send(seat, letter) => send(walk, seat, wish_of(letter), packets),

@@ -4,45 +4,45 @@ use mathlib.Core.Path.{◌≡◌, sym, ◌∙◌}
 use mathlib.Core.List.{List}
 use lib.ListN.{length}
 use Rattle.answers.specs.Answers.{bare, report}
-use Rattle.packet.specs.Packet.{past_of, barrierOf}
-use Rattle.seat.specs.Arriving.{headingOf, arriveAnswer, Arrived}
-use Rattle.tautrobin.specs.Image.{imageSize, decoded, Numbered}
-use Rattle.tautrobin.specs.Calls.{Kept, arriveReport, ArriveCalled}
+use Rattle.packet.specs.Packet.{past_of, barrier_of}
+use Rattle.seat.specs.Arriving.{heading_of, arrive_answer, Arrived}
+use Rattle.tautrobin.specs.Image.{image_size, decoded, Numbered}
+use Rattle.tautrobin.specs.Calls.{Kept, arrive_report, ArriveCalled}
 use Rattle.seat.specs.declared.Seat.{Seat}
 use Rattle.seat.specs.declared.Stepped.{Stepped}
-use Rattle.tautrobin.proofs.Reporting.{packed-bare, refuses, goes_on, none_left, left_alone, stands}
-use Rattle.tautrobin.proofs.Keeping.{right-length, wrong-length, shelf-left-alone, seat-after-is-numbered, handed-is-numbered, kept-answer, kept-image}
+use Rattle.tautrobin.proofs.Reporting.{packed_bare, refuses, goes_on, none_left, left_alone, stands}
+use Rattle.tautrobin.proofs.Keeping.{right_length, wrong_length_lem, shelf_left_alone, seat_after_is_numbered, handed_is_numbered, kept_answer, kept_image}
 
-pub stepped-arrive-is-numbered : (shelf packet : List ℕ) (seat : Seat) (stepped : Stepped) (after : List ℕ) → Numbered seat → Arrived seat packet shelf stepped after → Numbered stepped.seat
-stepped-arrive-is-numbered shelf packet seat stepped after numbered arrived =
+pub stepped_arrive_is_numbered : (shelf packet : List ℕ) (seat : Seat) (stepped : Stepped) (after : List ℕ) → Numbered seat → Arrived seat packet shelf stepped after → Numbered stepped.seat
+stepped_arrive_is_numbered shelf packet seat stepped after numbered arrived =
     rw arrived.next
-    (seat-after-is-numbered (arriveAnswer seat shelf packet) _ seat (handed-is-numbered seat (headingOf packet) (past_of packet) (barrierOf packet) numbered) numbered)
+    (seat_after_is_numbered (arrive_answer seat shelf packet) _ seat (handed_is_numbered seat (heading_of packet) (past_of packet) (barrier_of packet) numbered) numbered)
 
 module _ (image shelf packet : List ℕ) where
-  pub arrive-wrong-length-is-10 : (length image ≡ imageSize → ⊥) → arriveReport image shelf packet ≡ bare 10
-  unfolding arriveReport
-  arrive-wrong-length-is-10 wrong = refuses 10 _ _ _ (wrong-length image wrong)
+  pub arrive_wrong_length_is_10 : (length image ≡ image_size → ⊥) → arrive_report image shelf packet ≡ bare 10
+  unfolding arrive_report
+  arrive_wrong_length_is_10 wrong = refuses 10 _ _ _ (wrong_length_lem image wrong)
 
-  pub arrive-steps : length image ≡ imageSize → arriveReport image shelf packet ≡ report (arriveAnswer (decoded image) shelf packet)
-  unfolding arriveReport
-  arrive-steps right = goes_on 10 _ _ _ (right-length image right) ∙ none_left _
+  pub arrive_steps : length image ≡ image_size → arrive_report image shelf packet ≡ report (arrive_answer (decoded image) shelf packet)
+  unfolding arrive_report
+  arrive_steps right = goes_on 10 _ _ _ (right_length image right) ∙ none_left _
 
-  pub refused-arrive-call : (number : ℕ) → 1 < number → arriveReport image shelf packet ≡ bare number → ArriveCalled image shelf packet number image shelf
-  refused-arrive-call number large told =
+  pub refused_arrive_call : (number : ℕ) → 1 < number → arrive_report image shelf packet ≡ bare number → ArriveCalled image shelf packet number image shelf
+  refused_arrive_call number large told =
       record {
-        answered = sym (packed-bare number) ∙ rw told;
-        image-after = rw told (sym (left_alone (bare number) _ image large));
-        shelf-after = rw told (sym (left_alone (bare number) _ shelf large));
+        answered = sym (packed_bare number) ∙ rw told;
+        image_after = rw told (sym (left_alone (bare number) _ image large));
+        shelf_after_is = rw told (sym (left_alone (bare number) _ shelf large));
       }
 
-  pub stepped-arrive-call : (seat : Seat) (stepped : Stepped) (answer : ℕ) (image-left shelf-left : List ℕ) → seat ≡ decoded image
-      → arriveReport image shelf packet ≡ report (arriveAnswer (decoded image) shelf packet) → Arrived seat packet shelf stepped shelf-left
+  pub stepped_arrive_call : (seat : Seat) (stepped : Stepped) (answer : ℕ) (image-left shelf-left : List ℕ) → seat ≡ decoded image
+      → arrive_report image shelf packet ≡ report (arrive_answer (decoded image) shelf packet) → Arrived seat packet shelf stepped shelf-left
       → Kept stepped image answer image-left → ArriveCalled image shelf packet answer image-left shelf-left
-  stepped-arrive-call seat stepped answer image-left shelf-left is-seat told arrived kept =
-      let of = arriveAnswer (decoded image) shelf packet in
+  stepped_arrive_call seat stepped answer image-left shelf-left is-seat told arrived kept =
+      let of = arrive_answer (decoded image) shelf packet in
       let answered : stepped.answer ≡ of = arrived.answered ∙ rw is-seat in
       record {
-        answered = kept-answer image stepped answer image-left of _ answered told kept;
-        image-after = kept-image image stepped answer image-left of _ _ answered told (arrived.next ∙ rw is-seat) kept;
-        shelf-after = arrived.shelf-after ∙ rw (is-seat, told) (stands of _ shelf (shelf-left-alone of packet shelf));
+        answered = kept_answer image stepped answer image-left of _ answered told kept;
+        image_after = kept_image image stepped answer image-left of _ _ answered told (arrived.next ∙ rw is-seat) kept;
+        shelf_after_is = arrived.shelf_after_is ∙ rw (is-seat, told) (stands of _ shelf (shelf_left_alone of packet shelf));
       }

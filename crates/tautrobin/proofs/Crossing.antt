@@ -10,9 +10,9 @@ use Rattle.answers.specs.Answers.{report}
 use Rattle.vectors.specs.Bytes.{Bytes}
 use Rattle.seat.specs.State.{Held}
 use Rattle.seat.specs.declared.Stepped.{Stepped}
-use Rattle.tautrobin.specs.Image.{imageSize, decoded, encoded, Numbered}
+use Rattle.tautrobin.specs.Image.{image_size, decoded, encoded, Numbered}
 use Rattle.tautrobin.specs.Calls.{rewritten, Kept}
-use Rattle.tautrobin.proofs.ImageRoundTrip.{image-reads-back, image-writes-again}
+use Rattle.tautrobin.proofs.ImageRoundTrip.{image_reads_back, image_writes_again}
 use Rattle.tautrobin.proofs.Reporting.{goes_in}
 
 either_way : (test : Bool) (l : List ℕ) → cond test l l ≡ l
@@ -20,11 +20,11 @@ either_way true l = refl
 either_way false l = refl
 
 module _ (stepped : Stepped) (image : List ℕ) (answer : ℕ) (image-left : List ℕ) (kept : Kept stepped image answer image-left) where
-  pub next-state-reads-back : (report stepped.answer).answer ≤ 1 → Held stepped.seat → Numbered stepped.seat → decoded image-left ≡ stepped.seat
-  next-state-reads-back done held numbered =
-      ap decoded (kept.image-after ∙ goes_in (report stepped.answer) (encoded stepped.seat) image done) ∙ image-reads-back stepped.seat held numbered
+  pub next_state_reads_back : (report stepped.answer).answer ≤ 1 → Held stepped.seat → Numbered stepped.seat → decoded image-left ≡ stepped.seat
+  next_state_reads_back done held numbered =
+      ap decoded (kept.image_after ∙ goes_in (report stepped.answer) (encoded stepped.seat) image done) ∙ image_reads_back stepped.seat held numbered
 
-  pub same-state-leaves-the-image : length image ≡ imageSize → Bytes image → stepped.seat ≡ decoded image → image-left ≡ image
+  pub same_state_leaves_the_image : length image ≡ image_size → Bytes image → stepped.seat ≡ decoded image → image-left ≡ image
   unfolding rewritten
-  same-state-leaves-the-image right bytes same =
-      kept.image-after ∙ rw (same, image-writes-again image right bytes) (either_way (leb (report stepped.answer).answer 1) image)
+  same_state_leaves_the_image right bytes same =
+      kept.image_after ∙ rw (same, image_writes_again image right bytes) (either_way (leb (report stepped.answer).answer 1) image)

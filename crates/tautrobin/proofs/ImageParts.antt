@@ -10,50 +10,50 @@ use lib.ListN.{length, get_or, set, take, drop, length-append, get_or-eq_default
 use lib.Seq.{sets, sets-eq, take_all, drop-length}
 use Rattle.answers.specs.Answers.{seatNo}
 use Rattle.vectors.specs.Bytes.{number_at, fields_of, Bytes}
-use Rattle.vectors.proofs.Vector.{length-vector, vector-below}
-use Rattle.vectors.proofs.Numbers.{length-fieldsOf, number_fits, sets_then}
-use Rattle.tautrobin.specs.Image.{imageSize, past_at, barrierAt, run_at, aheadAt, fields_at, decoded, numbersByte, encoded, Numbered}
+use Rattle.vectors.proofs.Vector.{length_vector, vector_below}
+use Rattle.vectors.proofs.Numbers.{length_fields_of, number_fits, sets_then}
+use Rattle.tautrobin.specs.Image.{image_size, past_at, barrier_at, run_at, ahead_at, fields_at, decoded, numbers_byte, encoded, Numbered}
 use Rattle.seat.specs.State.{Held}
 use Rattle.seat.specs.declared.Seat.{Seat}
 
 -- ---- a state that was read
 
-pub decoded-is : (image past barrier run ahead : List ℕ) → past ≡ fields_at 2 image past_at → barrier ≡ fields_at 2 image barrierAt
-    → run ≡ fields_at 2 image run_at → ahead ≡ fields_at 8 image aheadAt
+pub decoded_is : (image past barrier run ahead : List ℕ) → past ≡ fields_at 2 image past_at → barrier ≡ fields_at 2 image barrier_at
+    → run ≡ fields_at 2 image run_at → ahead ≡ fields_at 8 image ahead_at
     → ◌≡◌ {A = Seat}
     (record { n = get_or image 0 0 / 16 + 1; own = seatNo (get_or image 0 0 % 16 + 1); past = past; barrier = barrier; run = run; ahead = ahead })
     (decoded image)
 unfolding decoded
-decoded-is image past barrier run ahead is-past is-barrier is-run is-ahead = rw (is-past, is-barrier, is-run, is-ahead)
+decoded_is image past barrier run ahead is-past is-barrier is-run is-ahead = rw (is-past, is-barrier, is-run, is-ahead)
 
 module _ (image : List ℕ) (bytes : Bytes image) where
   field_fits : (w at k : ℕ) → get_or (fields_at w image at) k 0 < 256 ^ w
   field_fits w at k =
-      let long = length-vector 16 (λ j. number_at w image (at + w * j)) in
+      let long = length_vector 16 (λ j. number_at w image (at + w * j)) in
       elim (dec_lt k 16) [
-        | yes inside ↦ rw (vector-below 16 (λ j. number_at w image (at + w * j)) k inside inside) (number_fits w image (at + w * k) bytes)
+        | yes inside ↦ rw (vector_below 16 (λ j. number_at w image (at + w * j)) k inside inside) (number_fits w image (at + w * k) bytes)
         | no above ↦ rw (get_or-eq_default (fields_at w image at) 0 {n = k} (omega arith)) (omega (arith, number_fits w image at bytes))
       ]
 
-  pub decoded-is-held : Held (decoded image)
+  pub decoded_is_held : Held (decoded image)
   unfolding decoded
-  decoded-is-held =
+  decoded_is_held =
       record {
-        past-long = length-vector 16 _;
-        barrier-long = length-vector 16 _;
-        run_long = length-vector 16 _;
-        ahead-long = length-vector 16 _;
+        past_long = length_vector 16 _;
+        barrier_long = length_vector 16 _;
+        run_long = length_vector 16 _;
+        ahead_long = length_vector 16 _;
         past_fits = field_fits 2 past_at;
-        barrier-fits = field_fits 2 barrierAt;
+        barrier_fits = field_fits 2 barrier_at;
         run_fits = field_fits 2 run_at;
-        ahead-fits = field_fits 8 aheadAt;
+        ahead_fits = field_fits 8 ahead_at;
       }
 
-  pub decoded-is-numbered : Numbered (decoded image)
+  pub decoded_is_numbered : Numbered (decoded image)
   unfolding decoded Bytes
-  decoded-is-numbered =
+  decoded_is_numbered =
       let first = bytes 0 in
-      record { seats-low = omega arith; seats-high = omega arith; own-low = omega arith; own-high = omega arith }
+      record { seats_low = omega arith; seats_high = omega arith; own_low = omega arith; own_high = omega arith }
 
 -- ---- a state that is written
 
@@ -75,17 +75,17 @@ module _ (seat : Seat) (long : Long seat) where
   pub parts : Parts seat
   parts =
       record {
-        past = length-fieldsOf 2 seat.past ∙ ap (λ (k : ℕ). 2 * k) long.past;
-        barrier = length-fieldsOf 2 seat.barrier ∙ ap (λ (k : ℕ). 2 * k) long.barrier;
-        run = length-fieldsOf 2 seat.run ∙ ap (λ (k : ℕ). 2 * k) long.run;
-        ahead = length-fieldsOf 8 seat.ahead ∙ ap (λ (k : ℕ). 8 * k) long.ahead;
+        past = length_fields_of 2 seat.past ∙ ap (λ (k : ℕ). 2 * k) long.past;
+        barrier = length_fields_of 2 seat.barrier ∙ ap (λ (k : ℕ). 2 * k) long.barrier;
+        run = length_fields_of 2 seat.run ∙ ap (λ (k : ℕ). 2 * k) long.run;
+        ahead = length_fields_of 8 seat.ahead ∙ ap (λ (k : ℕ). 8 * k) long.ahead;
       }
 
-  pub length-encoded : length (encoded seat) ≡ imageSize
+  pub length_encoded : length (encoded seat) ≡ image_size
   unfolding encoded
-  length-encoded =
+  length_encoded =
       let part = parts in
-      let H = numbersByte seat ∷ [] in
+      let H = numbers_byte seat ∷ [] in
       let P = fields_of 2 seat.past in
       let B = fields_of 2 seat.barrier in
       let R = fields_of 2 seat.run in
@@ -93,14 +93,14 @@ module _ (seat : Seat) (long : Long seat) where
       omega (arith, length-append H P, length-append (H ++ P) B, length-append (H ++ P ++ B) R, length-append (H ++ P ++ B ++ R) A)
 
   -- what stands after the five parts were put down
-  pub five-parts : (image a₁ a₂ a₃ a₄ a₅ : List ℕ) → length image ≡ imageSize → a₁ ≡ set image 0 (numbersByte seat)
-      → a₂ ≡ sets a₁ past_at (fields_of 2 (take 16 seat.past)) → a₃ ≡ sets a₂ barrierAt (fields_of 2 (take 16 seat.barrier))
-      → a₄ ≡ sets a₃ run_at (fields_of 2 (take 16 seat.run)) → a₅ ≡ sets a₄ aheadAt (fields_of 8 (take 16 seat.ahead))
+  pub five_parts : (image a₁ a₂ a₃ a₄ a₅ : List ℕ) → length image ≡ image_size → a₁ ≡ set image 0 (numbers_byte seat)
+      → a₂ ≡ sets a₁ past_at (fields_of 2 (take 16 seat.past)) → a₃ ≡ sets a₂ barrier_at (fields_of 2 (take 16 seat.barrier))
+      → a₄ ≡ sets a₃ run_at (fields_of 2 (take 16 seat.run)) → a₅ ≡ sets a₄ ahead_at (fields_of 8 (take 16 seat.ahead))
       → a₅ ≡ encoded seat
   unfolding encoded
-  five-parts image a₁ a₂ a₃ a₄ a₅ right e₁ e₂ e₃ e₄ e₅ =
+  five_parts image a₁ a₂ a₃ a₄ a₅ right e₁ e₂ e₃ e₄ e₅ =
       let part = parts in
-      let H = numbersByte seat ∷ [] in
+      let H = numbers_byte seat ∷ [] in
       let P = fields_of 2 seat.past in
       let B = fields_of 2 seat.barrier in
       let R = fields_of 2 seat.run in
@@ -121,10 +121,10 @@ module _ (seat : Seat) (long : Long seat) where
         take_all 16 seat.run (omega (arith, long.run)),
         take_all 16 seat.ahead (omega (arith, long.ahead)),
       )
-      (ap (λ (x : List ℕ). sets (sets (sets x barrierAt B) run_at R) aheadAt A) (sets_then image 0 H P past_at refl)
-      ∙ ap (λ (x : List ℕ). sets (sets x run_at R) aheadAt A) (sets_then image 0 (H ++ P) B barrierAt (omega arith))
-      ∙ ap (λ (x : List ℕ). sets x aheadAt A) (sets_then image 0 (H ++ P ++ B) R run_at (omega arith))
-      ∙ sets_then image 0 (H ++ P ++ B ++ R) A aheadAt (omega arith)) in
+      (ap (λ (x : List ℕ). sets (sets (sets x barrier_at B) run_at R) ahead_at A) (sets_then image 0 H P past_at refl)
+      ∙ ap (λ (x : List ℕ). sets (sets x run_at R) ahead_at A) (sets_then image 0 (H ++ P) B barrier_at (omega arith))
+      ∙ ap (λ (x : List ℕ). sets x ahead_at A) (sets_then image 0 (H ++ P ++ B) R run_at (omega arith))
+      ∙ sets_then image 0 (H ++ P ++ B ++ R) A ahead_at (omega arith)) in
       all ∙ covers (H ++ P ++ B ++ R ++ A) image (omega arith)
     where
       covers : (bytes image : List ℕ) → length bytes ≡ length image → sets image 0 bytes ≡ bytes

@@ -7,64 +7,64 @@ use native.Mathlib.Omega.{arith}
 use lib.ListN.{length}
 use Rattle.answers.specs.Answers.{seatNo, bare, report}
 use Rattle.packet.specs.Writing.{in_range}
-use Rattle.packet.proofs.Writable.{in-range}
-use Rattle.shelf.specs.Shelf.{wholeSlots}
-use Rattle.seat.specs.Opening.{openAnswer, OpenedAs}
-use Rattle.tautrobin.specs.Image.{imageSize, Numbered}
-use Rattle.tautrobin.specs.Calls.{Kept, openReport, OpenCalled}
+use Rattle.packet.proofs.Writable.{is_in_range}
+use Rattle.shelf.specs.Shelf.{whole_slots}
+use Rattle.seat.specs.Opening.{open_answer, OpenedAs}
+use Rattle.tautrobin.specs.Image.{image_size, Numbered}
+use Rattle.tautrobin.specs.Calls.{Kept, open_report, OpenCalled}
 use Rattle.seat.specs.declared.Stepped.{Stepped}
-use Rattle.seat.proofs.OpenAnswers.{broken-shelf-answers-10, opening-answers-0}
-use Rattle.tautrobin.proofs.Reporting.{packed-bare, refuses, goes_on, none_left, left_alone, stands}
-use Rattle.tautrobin.proofs.Keeping.{right-length, wrong-length, opened-shelf-left-alone, kept-answer, kept-image}
+use Rattle.seat.proofs.OpenAnswers.{broken_shelf_answers_10, opening_answers_0}
+use Rattle.tautrobin.proofs.Reporting.{packed_bare, refuses, goes_on, none_left, left_alone, stands}
+use Rattle.tautrobin.proofs.Keeping.{right_length, wrong_length_lem, opened_shelf_left_alone, kept_answer, kept_image}
 
 -- the numbers are those of no seat
-pub no-seat-above : (n own : ℕ) → (n ≤ 16 → own ≤ n → ⊥) → in_range (record { n = n; sender = seatNo own }) ≡ false
-no-seat-above n own above =
+pub no_seat_above : (n own : ℕ) → (n ≤ 16 → own ≤ n → ⊥) → in_range (record { n = n; sender = seatNo own }) ≡ false
+no_seat_above n own above =
     elim (in_range (record { n = n; sender = seatNo own })) as (λ b. in_range (record { n = n; sender = seatNo own }) ≡ b → in_range (record { n = n; sender = seatNo own }) ≡ false) [
-      | true ↦ λ e. let r = in-range _ e in absurd (above r.seats-high r.sender-high)
+      | true ↦ λ e. let r = is_in_range _ e in absurd (above r.seats_high r.sender_high)
       | false ↦ λ e. e
     ] refl
 
 -- an opened seat is in range
-pub stepped-open-is-numbered : (n own : ℕ) (shelf : List ℕ) (stepped : Stepped) (after : List ℕ) → in_range (record { n = n; sender = seatNo own }) ≡ true
+pub stepped_open_is_numbered : (n own : ℕ) (shelf : List ℕ) (stepped : Stepped) (after : List ℕ) → in_range (record { n = n; sender = seatNo own }) ≡ true
     → OpenedAs n (seatNo own) shelf stepped after → (report stepped.answer).answer ≤ 1 → Numbered stepped.seat
-stepped-open-is-numbered n own shelf stepped after range opened done =
-    elim (wholeSlots shelf) as (λ b. wholeSlots shelf ≡ b → Numbered stepped.seat) [
+stepped_open_is_numbered n own shelf stepped after range opened done =
+    elim (whole_slots shelf) as (λ b. whole_slots shelf ≡ b → Numbered stepped.seat) [
       | true ↦ λ whole.
-          let r = in-range _ range in
-          rw (opened.next, opening-answers-0 n (seatNo own) shelf range whole)
-          (record { seats-low = r.seats-low; seats-high = r.seats-high; own-low = r.sender-low; own-high = omega arith })
+          let r = is_in_range _ range in
+          rw (opened.next, opening_answers_0 n (seatNo own) shelf range whole)
+          (record { seats_low = r.seats_low; seats_high = r.seats_high; own_low = r.sender_low; own_high = omega arith })
       | false ↦ λ broken.
-          let none : 10 ≤ 1 = rw (opened.answered, broken-shelf-answers-10 n (seatNo own) shelf range broken) at done in absurd (omega arith)
+          let none : 10 ≤ 1 = rw (opened.answered, broken_shelf_answers_10 n (seatNo own) shelf range broken) at done in absurd (omega arith)
     ] refl
 
 module _ (n own : ℕ) (image shelf : List ℕ) where
-  pub no-such-seat-is-20 : in_range (record { n = n; sender = seatNo own }) ≡ false → openReport n own image shelf ≡ bare 20
-  unfolding openReport
-  no-such-seat-is-20 out = refuses 20 _ _ _ (rw out)
+  pub no_such_seat_is_20 : in_range (record { n = n; sender = seatNo own }) ≡ false → open_report n own image shelf ≡ bare 20
+  unfolding open_report
+  no_such_seat_is_20 out = refuses 20 _ _ _ (rw out)
 
   module _ (range : in_range (record { n = n; sender = seatNo own }) ≡ true) where
-    pub open-wrong-length-is-10 : (length image ≡ imageSize → ⊥) → openReport n own image shelf ≡ bare 10
-    unfolding openReport
-    open-wrong-length-is-10 wrong = goes_on 20 _ _ _ (rw range) ∙ refuses 10 _ _ _ (wrong-length image wrong)
+    pub open_wrong_length_is_10 : (length image ≡ image_size → ⊥) → open_report n own image shelf ≡ bare 10
+    unfolding open_report
+    open_wrong_length_is_10 wrong = goes_on 20 _ _ _ (rw range) ∙ refuses 10 _ _ _ (wrong_length_lem image wrong)
 
-    pub open-steps : length image ≡ imageSize → openReport n own image shelf ≡ report (openAnswer n (seatNo own) shelf)
-    unfolding openReport
-    open-steps right = goes_on 20 _ _ _ (rw range) ∙ goes_on 10 _ _ _ (right-length image right) ∙ none_left _
+    pub open_steps : length image ≡ image_size → open_report n own image shelf ≡ report (open_answer n (seatNo own) shelf)
+    unfolding open_report
+    open_steps right = goes_on 20 _ _ _ (rw range) ∙ goes_on 10 _ _ _ (right_length image right) ∙ none_left _
 
-  pub refused-open-call : (number : ℕ) → 1 < number → openReport n own image shelf ≡ bare number → OpenCalled n own image shelf number image shelf
-  refused-open-call number large told =
+  pub refused_open_call : (number : ℕ) → 1 < number → open_report n own image shelf ≡ bare number → OpenCalled n own image shelf number image shelf
+  refused_open_call number large told =
       record {
-        answered = sym (packed-bare number) ∙ rw told;
-        image-after = rw told (sym (left_alone (bare number) _ image large));
-        shelf-after = rw told (sym (left_alone (bare number) _ shelf large));
+        answered = sym (packed_bare number) ∙ rw told;
+        image_after = rw told (sym (left_alone (bare number) _ image large));
+        shelf_after_is = rw told (sym (left_alone (bare number) _ shelf large));
       }
 
-  pub stepped-open-call : (stepped : Stepped) (answer : ℕ) (image-left shelf-left : List ℕ) → openReport n own image shelf ≡ report (openAnswer n (seatNo own) shelf)
+  pub stepped_open_call : (stepped : Stepped) (answer : ℕ) (image-left shelf-left : List ℕ) → open_report n own image shelf ≡ report (open_answer n (seatNo own) shelf)
       → OpenedAs n (seatNo own) shelf stepped shelf-left → Kept stepped image answer image-left → OpenCalled n own image shelf answer image-left shelf-left
-  stepped-open-call stepped answer image-left shelf-left told opened kept =
+  stepped_open_call stepped answer image-left shelf-left told opened kept =
       record {
-        answered = kept-answer image stepped answer image-left _ _ opened.answered told kept;
-        image-after = kept-image image stepped answer image-left _ _ _ opened.answered told opened.next kept;
-        shelf-after = opened.shelf-after ∙ rw told (stands (openAnswer n (seatNo own) shelf) _ shelf (opened-shelf-left-alone (openAnswer n (seatNo own) shelf) shelf));
+        answered = kept_answer image stepped answer image-left _ _ opened.answered told kept;
+        image_after = kept_image image stepped answer image-left _ _ _ opened.answered told opened.next kept;
+        shelf_after_is = opened.shelf_after_is ∙ rw told (stands (open_answer n (seatNo own) shelf) _ shelf (opened_shelf_left_alone (open_answer n (seatNo own) shelf) shelf));
       }

@@ -11,68 +11,68 @@ use Rattle.answers.specs.declared.Refusal.TheVariants.{NotSound, BodyTooLong, Co
 use Rattle.answers.specs.declared.Answer.{Answer}
 use Rattle.answers.specs.declared.Answer.TheVariants.{Opened, Done, Shelved, NothingReady, Refused}
 use Rattle.answers.specs.declared.Report.{Report}
-use Rattle.tautrobin.specs.Calls.{packed, answerNumber, senderNumber, sequenceNumber, reportedLength, firstReport, rewritten}
+use Rattle.tautrobin.specs.Calls.{packed, answer_number, sender_number, sequence_number, reported_length, first_report, rewritten}
 
 -- ---- a report as one number
 
-pub packed-bare : (number : ℕ) → packed (bare number) ≡ number
+pub packed_bare : (number : ℕ) → packed (bare number) ≡ number
 unfolding packed
-packed-bare number = omega arith
+packed_bare number = omega arith
 
 -- the four values of a report are read back from its number
-pub packed-answer : (told : Report) → told.answer < 256 → answerNumber (packed told) ≡ told.answer
+pub packed_answer : (told : Report) → told.answer < 256 → answer_number (packed told) ≡ told.answer
 unfolding packed
-packed-answer told small = omega arith
+packed_answer told small = omega arith
 
-pub packed-edit : (told : Report) → told.answer < 256 → told.edit.sender.0 < 256 → told.edit.number.0 < 65536 → told.edit.length < 65536
-    → (senderNumber (packed told) ≡ told.edit.sender.0) × (sequenceNumber (packed told) ≡ told.edit.number.0) × (reportedLength (packed told) ≡ told.edit.length)
+pub packed_edit : (told : Report) → told.answer < 256 → told.edit.sender.0 < 256 → told.edit.number.0 < 65536 → told.edit.length < 65536
+    → (sender_number (packed told) ≡ told.edit.sender.0) × (sequence_number (packed told) ≡ told.edit.number.0) × (reported_length (packed told) ≡ told.edit.length)
 unfolding packed
-packed-edit told small sender number length = (omega arith, omega arith, omega arith)
+packed_edit told small sender number length = (omega arith, omega arith, omega arith)
 
-refusals-between : (refusal : Refusal) → (1 < refusalNumber refusal) × (refusalNumber refusal < 256)
-refusals-between NotSound = (omega arith, omega arith)
-refusals-between BodyTooLong = (omega arith, omega arith)
-refusals-between CountFull = (omega arith, omega arith)
-refusals-between OutputTooShort = (omega arith, omega arith)
-refusals-between NotWellFormed = (omega arith, omega arith)
-refusals-between OtherSession = (omega arith, omega arith)
-refusals-between AboveOwnCount = (omega arith, omega arith)
-refusals-between Repeated = (omega arith, omega arith)
-refusals-between TooFarAhead = (omega arith, omega arith)
-refusals-between ShelfFull = (omega arith, omega arith)
-refusals-between NoSuchSeat = (omega arith, omega arith)
-refusals-between BarrierAbovePast = (omega arith, omega arith)
+refusals_between : (refusal : Refusal) → (1 < refusalNumber refusal) × (refusalNumber refusal < 256)
+refusals_between NotSound = (omega arith, omega arith)
+refusals_between BodyTooLong = (omega arith, omega arith)
+refusals_between CountFull = (omega arith, omega arith)
+refusals_between OutputTooShort = (omega arith, omega arith)
+refusals_between NotWellFormed = (omega arith, omega arith)
+refusals_between OtherSession = (omega arith, omega arith)
+refusals_between AboveOwnCount = (omega arith, omega arith)
+refusals_between Repeated = (omega arith, omega arith)
+refusals_between TooFarAhead = (omega arith, omega arith)
+refusals_between ShelfFull = (omega arith, omega arith)
+refusals_between NoSuchSeat = (omega arith, omega arith)
+refusals_between BarrierAbovePast = (omega arith, omega arith)
 
-report-is-small : (answer : Answer) → (report answer).answer < 256
-report-is-small Opened = omega arith
-report-is-small (Done edit) = omega arith
-report-is-small Shelved = omega arith
-report-is-small NothingReady = omega arith
-report-is-small (Refused refusal) = (refusals-between refusal).1
+report_is_small : (answer : Answer) → (report answer).answer < 256
+report_is_small Opened = omega arith
+report_is_small (Done edit) = omega arith
+report_is_small Shelved = omega arith
+report_is_small NothingReady = omega arith
+report_is_small (Refused refusal) = (refusals_between refusal).1
 
 -- ---- refusals in their order
 
 module _ (number : ℕ) (rest : List (ℕ × Bool)) (step : Report) where
-  pub refuses : (test : Bool) → test ≡ true → firstReport ((number, test) ∷ rest) step ≡ bare number
-  unfolding firstReport
+  pub refuses : (test : Bool) → test ≡ true → first_report ((number, test) ∷ rest) step ≡ bare number
+  unfolding first_report
   refuses test e = rw e
 
-  pub goes_on : (test : Bool) → test ≡ false → firstReport ((number, test) ∷ rest) step ≡ firstReport rest step
-  unfolding firstReport
+  pub goes_on : (test : Bool) → test ≡ false → first_report ((number, test) ∷ rest) step ≡ first_report rest step
+  unfolding first_report
   goes_on test e = rw e
 
-  pub first-is-small : (test : Bool) → number < 256 → (firstReport rest step).answer < 256 → (firstReport ((number, test) ∷ rest) step).answer < 256
-  unfolding firstReport
-  first-is-small true small others = small
-  first-is-small false small others = others
+  pub first_is_small : (test : Bool) → number < 256 → (first_report rest step).answer < 256 → (first_report ((number, test) ∷ rest) step).answer < 256
+  unfolding first_report
+  first_is_small true small others = small
+  first_is_small false small others = others
 
-pub none_left : (step : Report) → firstReport [] step ≡ step
-unfolding firstReport
+pub none_left : (step : Report) → first_report [] step ≡ step
+unfolding first_report
 none_left step = refl
 
-pub last-is-small : (answer : Answer) → (firstReport [] (report answer)).answer < 256
-unfolding firstReport
-last-is-small answer = report-is-small answer
+pub last_is_small : (answer : Answer) → (first_report [] (report answer)).answer < 256
+unfolding first_report
+last_is_small answer = report_is_small answer
 
 -- ---- what is rewritten
 
@@ -81,8 +81,8 @@ unfolding rewritten
 left_alone told next before h = rw (lt-leb told.answer 1 h)
 
 -- where the answer number is not 0 or 1
-pub told-large : (told : Report) (answer : ℕ) → answer ≡ packed told → told.answer < 256 → 1 < answerNumber answer → 1 < told.answer
-told-large told answer is small large = rw (is, packed-answer told small) at large
+pub told_large : (told : Report) (answer : ℕ) → answer ≡ packed told → told.answer < 256 → 1 < answer_number answer → 1 < told.answer
+told_large told answer is small large = rw (is, packed_answer told small) at large
 
 pub goes_in : (told : Report) (next before : List ℕ) → told.answer ≤ 1 → rewritten told next before ≡ next
 unfolding rewritten
@@ -95,4 +95,4 @@ stands Opened next before same = refl
 stands (Done edit) next before same = refl
 stands Shelved next before same = refl
 stands NothingReady next before same = same (omega arith)
-stands (Refused refusal) next before same = let large = (refusals-between refusal).0 in rw (lt-leb (refusalNumber refusal) 1 large) (same large)
+stands (Refused refusal) next before same = let large = (refusals_between refusal).0 in rw (lt-leb (refusalNumber refusal) 1 large) (same large)

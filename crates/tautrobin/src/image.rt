@@ -1,6 +1,6 @@
 // The state as it crosses to C: an image of 225 bytes (document 01, "For the package, which is written in C").
 ghost use Rattle.std.specs.Prelude.{◌≡◌, length, set};
-ghost use Rattle.tautrobin.specs.Image.{imageSize, decoded, encoded, numbersByte, Recounted, Numbered};
+ghost use Rattle.tautrobin.specs.Image.{image_size, decoded, encoded, numbers_byte, Recounted, Numbered};
 
 use answers::SeatNo;
 use seat::Seat;
@@ -19,7 +19,7 @@ const AHEAD_AT: usize = 97;
 
 // The state that an image says. The callers have found its length to be right.
 pub fn decode(image: &[u8]) -> Seat
-    requires { length image.now ≡ imageSize }
+    requires { length image.now ≡ image_size }
     ensures { (result ≡ decoded image.now) × Numbered result }
 {
     let n = image[0] / 16 + 1;
@@ -40,8 +40,8 @@ pub fn decode(image: &[u8]) -> Seat
 
 // n - 1 and own number - 1 go to the first byte.
 fn put_numbers(seat: Seat, image: &mut [u8])
-    requires { (length image.old ≡ imageSize) × Numbered seat }
-    ensures { image.new ≡ set image.old 0 (numbersByte seat) }
+    requires { (length image.old ≡ image_size) × Numbered seat }
+    ensures { image.new ≡ set image.old 0 (numbers_byte seat) }
 {
     image[0] = (seat.n - 1) * 16 + (seat.own.0 - 1);
 }
@@ -49,7 +49,7 @@ fn put_numbers(seat: Seat, image: &mut [u8])
 // The image of a state that is another than the image's in past and barrier alone. The caller has found its length to be
 // right.
 pub fn encode_counts(seat: Seat, image: &mut [u8])
-    requires { (length image.old ≡ imageSize) × Recounted seat (decoded image.old) }
+    requires { (length image.old ≡ image_size) × Recounted seat (decoded image.old) }
     ensures { image.new ≡ encoded seat }
 {
     let past = seat.past;
@@ -60,7 +60,7 @@ pub fn encode_counts(seat: Seat, image: &mut [u8])
 
 // The image of a state. The callers have found its length to be right, and n and own number to be in range.
 pub fn encode(seat: Seat, image: &mut [u8])
-    requires { (length image.old ≡ imageSize) × Numbered seat }
+    requires { (length image.old ≡ image_size) × Numbered seat }
     ensures { image.new ≡ encoded seat }
 {
     let past = seat.past;

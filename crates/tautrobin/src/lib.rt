@@ -3,8 +3,8 @@ mod image;
 
 ghost use Rattle.std.specs.Prelude.{◌≡◌, ◌≤◌, length};
 ghost use Rattle.answers.specs.Answers.{report};
-ghost use Rattle.tautrobin.specs.Image.{imageSize, decoded, Recounted, Numbered};
-ghost use Rattle.tautrobin.specs.Calls.{packed, wishOf, Kept, OpenCalled, SendCalled, ArriveCalled, ReleaseCalled};
+ghost use Rattle.tautrobin.specs.Image.{image_size, decoded, Recounted, Numbered};
+ghost use Rattle.tautrobin.specs.Calls.{packed, wish_of, Kept, OpenCalled, SendCalled, ArriveCalled, ReleaseCalled};
 
 use answers::{Report, SeatNo};
 use image::{IMAGE_SIZE, decode, encode, encode_counts};
@@ -34,7 +34,7 @@ fn pack(told: Report) -> u64
 
 // The kind that is wished for: 0 is ordinary, 1 causal and 2 usual.
 fn wish_of(kind: u32) -> Wish
-    ensures { result ≡ wishOf kind }
+    ensures { result ≡ wish_of kind }
 {
     match kind {
         0 => Wish::Ordinary,
@@ -45,7 +45,7 @@ fn wish_of(kind: u32) -> Wish
 
 // The answer of a step; on 0 and 1 the next state goes to the image. The callers have found the image's length to be right.
 fn keep(stepped: Stepped, state: &mut [u8]) -> u64
-    requires { (length state.old ≡ imageSize) × ((report stepped.answer).answer ≤ 1 → Numbered stepped.seat) }
+    requires { (length state.old ≡ image_size) × ((report stepped.answer).answer ≤ 1 → Numbered stepped.seat) }
     ensures { Kept stepped state.old result state.new }
 {
     let answer = stepped.answer;
@@ -60,7 +60,7 @@ fn keep(stepped: Stepped, state: &mut [u8]) -> u64
 
 // The same, where the next state is another than the image's in past and barrier alone.
 fn keep_counts(stepped: Stepped, state: &mut [u8]) -> u64
-    requires { (length state.old ≡ imageSize) × Recounted stepped.seat (decoded state.old) }
+    requires { (length state.old ≡ image_size) × Recounted stepped.seat (decoded state.old) }
     ensures { Kept stepped state.old result state.new }
 {
     let answer = stepped.answer;

@@ -16,23 +16,23 @@ and_both false false e = (e, e)
 
 module _ (test : ℕ → Bool) where
   -- what holds of all holds of each, and the other way round
-  pub all-at : (n k : ℕ) → all n test ≡ true → k < n → test k ≡ true
+  pub all_at : (n k : ℕ) → all n test ≡ true → k < n → test k ≡ true
   unfolding all
-  all-at zero k e h = absurd (not-suc-le-zero h)
-  all-at (suc n) k e h =
+  all_at zero k e h = absurd (not-suc-le-zero h)
+  all_at (suc n) k e h =
       let both = and_both (all n test) (test n) e in
-      ⊎_elim (λ same. rw same both.1) (λ less. all-at n k both.0 less) (eq-or-lt_of_le (le_of_suc-le-suc h))
+      ⊎_elim (λ same. rw same both.1) (λ less. all_at n k both.0 less) (eq-or-lt_of_le (le_of_suc-le-suc h))
 
   pub all_of : (n : ℕ) → ((k : ℕ) → k < n → test k ≡ true) → all n test ≡ true
   unfolding all
   all_of zero each = refl
   all_of (suc n) each = rw (all_of n (λ k h. each k (omega arith))) (each n (omega arith))
 
-  pub all-fails : (n k : ℕ) → k < n → test k ≡ false → all n test ≡ false
+  pub all_fails : (n k : ℕ) → k < n → test k ≡ false → all n test ≡ false
   unfolding all
-  all-fails zero k h e = absurd (not-suc-le-zero h)
-  all-fails (suc n) k h e =
-      ⊎_elim (λ same. rw (← same, e) (and-false (all k test))) (λ less. rw (all-fails n k less e)) (eq-or-lt_of_le (le_of_suc-le-suc h))
+  all_fails zero k h e = absurd (not-suc-le-zero h)
+  all_fails (suc n) k h e =
+      ⊎_elim (λ same. rw (← same, e) (and-false (all k test))) (λ less. rw (all_fails n k less e)) (eq-or-lt_of_le (le_of_suc-le-suc h))
 
 -- two tests that agree below n
 pub all_same : (n : ℕ) (one other : ℕ → Bool) → ((k : ℕ) → k < n → one k ≡ other k) → all n one ≡ all n other
@@ -47,11 +47,11 @@ all_split a zero test = rw add-zero (sym (and-true (all a test)))
 all_split a (suc b) test =
     rw add-suc (ap (λ (t : Bool). t && test (a + b)) (all_split a b test) ∙ and_assoc (all a test) (all b (λ k. test (a + k))) (test (a + b)))
 
-pub all-parts : (w n : ℕ) (test : ℕ → Bool) → all n (λ k. all w (λ j. test (w * k + j))) ≡ all (w * n) test
+pub all_parts : (w n : ℕ) (test : ℕ → Bool) → all n (λ k. all w (λ j. test (w * k + j))) ≡ all (w * n) test
 unfolding all
-all-parts w zero test = rw mul-zero
-all-parts w (suc n) test =
-    rw mul-suc (ap (λ (t : Bool). t && all w (λ j. test (w * n + j))) (all-parts w n test) ∙ sym (all_split (w * n) w test))
+all_parts w zero test = rw mul-zero
+all_parts w (suc n) test =
+    rw mul-suc (ap (λ (t : Bool). t && all w (λ j. test (w * n + j))) (all_parts w n test) ∙ sym (all_split (w * n) w test))
 
 -- the loop: after k turns the test is gathered over the first k indices
 pub record Gathered (n : ℕ) (test : ℕ → Bool) (k : ℕ) (ok : Bool) : Type 0 where
@@ -63,9 +63,9 @@ module _ (n : ℕ) (test : ℕ → Bool) where
   unfolding all
   gathered_none = record { low = omega arith; is = refl }
 
-  pub gathered-more : (k : ℕ) (ok next : Bool) → Gathered n test k ok → k < n → next ≡ (ok && test k) → Gathered n test (k + 1) next
+  pub gathered_more : (k : ℕ) (ok next : Bool) → Gathered n test k ok → k < n → next ≡ (ok && test k) → Gathered n test (k + 1) next
   unfolding all
-  gathered-more k ok next so h e = record { low = omega arith; is = rw add-one (e ∙ ap (λ (b : Bool). b && test k) so.is) }
+  gathered_more k ok next so h e = record { low = omega arith; is = rw add-one (e ∙ ap (λ (b : Bool). b && test k) so.is) }
 
-  pub gathered-all : (k : ℕ) (ok : Bool) → Gathered n test k ok → n ≤ k → ok ≡ all n test
-  gathered-all k ok so h = so.is ∙ rw (le_antisymm so.low h)
+  pub gathered_all : (k : ℕ) (ok : Bool) → Gathered n test k ok → n ≤ k → ok ≡ all n test
+  gathered_all k ok so h = so.is ∙ rw (le_antisymm so.low h)

@@ -14,20 +14,20 @@ use Rattle.vectors.specs.Bytes.{number_at, bytes_of, fields_of, Bytes}
 
 -- ---- lengths
 
-pub length-bytesOf : (w x : ℕ) → length (bytes_of w x) ≡ w
+pub length_bytes_of : (w x : ℕ) → length (bytes_of w x) ≡ w
 unfolding bytes_of
-length-bytesOf zero x = refl
-length-bytesOf (suc w) x = length-append (bytes_of w (x / 256)) (x % 256 ∷ []) ∙ ap (λ (k : ℕ). k + 1) (length-bytesOf w (x / 256)) ∙ add-one w
+length_bytes_of zero x = refl
+length_bytes_of (suc w) x = length-append (bytes_of w (x / 256)) (x % 256 ∷ []) ∙ ap (λ (k : ℕ). k + 1) (length_bytes_of w (x / 256)) ∙ add-one w
 
-pub length-fieldsOf : (w : ℕ) (v : List ℕ) → length (fields_of w v) ≡ w * length v
+pub length_fields_of : (w : ℕ) (v : List ℕ) → length (fields_of w v) ≡ w * length v
 unfolding fields_of
-length-fieldsOf w [] = sym (mul-zero w)
-length-fieldsOf w (x ∷ v) =
-    length-append (bytes_of w x) (fields_of w v) ∙ ap₂ ◌+◌ (length-bytesOf w x) (length-fieldsOf w v) ∙ add_comm w (w * length v) ∙ sym (mul-suc w (length v))
+length_fields_of w [] = sym (mul-zero w)
+length_fields_of w (x ∷ v) =
+    length-append (bytes_of w x) (fields_of w v) ∙ ap₂ ◌+◌ (length_bytes_of w x) (length_fields_of w v) ∙ add_comm w (w * length v) ∙ sym (mul-suc w (length v))
 
 -- the first n of at least n fields
 pub length_fields : (w n : ℕ) (v : List ℕ) → n ≤ length v → length (fields_of w (take n v)) ≡ w * n
-length_fields w n v h = length-fieldsOf w (take n v) ∙ ap (λ (k : ℕ). w * k) (length-take-le n v h)
+length_fields w n v h = length_fields_of w (take n v) ∙ ap (λ (k : ℕ). w * k) (length-take-le n v h)
 
 -- ---- two bytes
 
@@ -37,9 +37,9 @@ two_bytes s i = rw add-zero (omega arith)
 
 -- ---- how large a number is
 
-pow-256 : (w : ℕ) → 0 < 256 ^ w
-pow-256 zero = omega arith
-pow-256 (suc w) = omega (arith, pow-suc 256 w, pow-256 w)
+pow_256 : (w : ℕ) → 0 < 256 ^ w
+pow_256 zero = omega arith
+pow_256 (suc w) = omega (arith, pow-suc 256 w, pow_256 w)
 
 pub number_fits : (w : ℕ) (s : List ℕ) (i : ℕ) → Bytes s → number_at w s i < 256 ^ w
 unfolding number_at Bytes
@@ -48,12 +48,12 @@ number_fits (suc w) s i small = omega (arith, pow-suc 256 w, number_fits w s i s
 
 -- ---- stores, one piece after another
 
-sets-append : (l : List ℕ) (i : ℕ) (vs ws : List ℕ) → sets l i (vs ++ ws) ≡ sets (sets l i vs) (i + length vs) ws
-sets-append l i [] ws = rw add-zero
-sets-append l i (a ∷ vs) ws = sets-append (set l i a) (suc i) vs ws ∙ rw (suc-add, add-suc)
+sets_append : (l : List ℕ) (i : ℕ) (vs ws : List ℕ) → sets l i (vs ++ ws) ≡ sets (sets l i vs) (i + length vs) ws
+sets_append l i [] ws = rw add-zero
+sets_append l i (a ∷ vs) ws = sets_append (set l i a) (suc i) vs ws ∙ rw (suc-add, add-suc)
 
 pub sets_then : (l : List ℕ) (i : ℕ) (vs ws : List ℕ) (j : ℕ) → i + length vs ≡ j → sets (sets l i vs) j ws ≡ sets l i (vs ++ ws)
-sets_then l i vs ws j e = rw (← e) (sym (sets-append l i vs ws))
+sets_then l i vs ws j e = rw (← e) (sym (sets_append l i vs ws))
 
 -- the loop: after k turns what stands at i is `so_far k`
 pub record Put (l : List ℕ) (i n : ℕ) (so_far : ℕ → List ℕ) (k : ℕ) (now : List ℕ) : Type 0 where
@@ -62,12 +62,12 @@ pub record Put (l : List ℕ) (i n : ℕ) (so_far : ℕ → List ℕ) (k : ℕ) 
   pub is : now ≡ sets l i (so_far k)
 
 module _ (l : List ℕ) (i n : ℕ) (so_far : ℕ → List ℕ) where
-  pub put-none : so_far 0 ≡ [] → Put l i n so_far 0 l
-  put-none e = record { low = omega arith; long = refl; is = sym (ap (λ (x : List ℕ). sets l i x) e) }
+  pub put_none : so_far 0 ≡ [] → Put l i n so_far 0 l
+  put_none e = record { low = omega arith; long = refl; is = sym (ap (λ (x : List ℕ). sets l i x) e) }
 
-  pub put-more : (k at : ℕ) (now next piece : List ℕ) → Put l i n so_far k now → k < n → so_far (k + 1) ≡ so_far k ++ piece → i + length (so_far k) ≡ at
+  pub put_more : (k at : ℕ) (now next piece : List ℕ) → Put l i n so_far k now → k < n → so_far (k + 1) ≡ so_far k ++ piece → i + length (so_far k) ≡ at
       → next ≡ sets now at piece → Put l i n so_far (k + 1) next
-  put-more k at now next piece so h more here e =
+  put_more k at now next piece so h more here e =
       let is : next ≡ sets l i (so_far (k + 1)) =
       e ∙ ap (λ (x : List ℕ). sets x at piece) so.is ∙ sets_then l i (so_far k) piece at here ∙ ap (λ (x : List ℕ). sets l i x) (sym more) in
       record { low = omega arith; long = ap length is ∙ length-sets l i (so_far (k + 1)); is = is }
@@ -77,21 +77,21 @@ module _ (l : List ℕ) (i n : ℕ) (so_far : ℕ → List ℕ) where
 
 -- ---- fields, one after another
 
-fieldsOf-append : (w : ℕ) (xs ys : List ℕ) → fields_of w (xs ++ ys) ≡ fields_of w xs ++ fields_of w ys
+fields_of_append : (w : ℕ) (xs ys : List ℕ) → fields_of w (xs ++ ys) ≡ fields_of w xs ++ fields_of w ys
 unfolding fields_of
-fieldsOf-append w [] ys = refl
-fieldsOf-append w (x ∷ xs) ys = ap (λ (l : List ℕ). bytes_of w x ++ l) (fieldsOf-append w xs ys) ∙ sym (append_assoc (bytes_of w x) (fields_of w xs) (fields_of w ys))
+fields_of_append w [] ys = refl
+fields_of_append w (x ∷ xs) ys = ap (λ (l : List ℕ). bytes_of w x ++ l) (fields_of_append w xs ys) ∙ sym (append_assoc (bytes_of w x) (fields_of w xs) (fields_of w ys))
 
-fieldsOf-one : (w x : ℕ) → fields_of w (x ∷ []) ≡ bytes_of w x
+fields_of_one : (w x : ℕ) → fields_of w (x ∷ []) ≡ bytes_of w x
 unfolding fields_of
-fieldsOf-one w x = append-nil (bytes_of w x)
+fields_of_one w x = append-nil (bytes_of w x)
 
 -- one field more, and one byte more
-pub fields-more : (w : ℕ) (v : List ℕ) (k : ℕ) → k < length v → fields_of w (take (k + 1) v) ≡ fields_of w (take k v) ++ bytes_of w (get_or v k 0)
-fields-more w v k h = rw (add-one, take-suc v k 0, fieldsOf-append, fieldsOf-one)
+pub fields_more : (w : ℕ) (v : List ℕ) (k : ℕ) → k < length v → fields_of w (take (k + 1) v) ≡ fields_of w (take k v) ++ bytes_of w (get_or v k 0)
+fields_more w v k h = rw (add-one, take-suc v k 0, fields_of_append, fields_of_one)
 
-pub bytes-more : (s : List ℕ) (k : ℕ) → k < length s → take (k + 1) s ≡ take k s ++ (get_or s k 0 ∷ [])
-bytes-more s k h = rw (add-one, take-suc s k 0)
+pub bytes_more : (s : List ℕ) (k : ℕ) → k < length s → take (k + 1) s ≡ take k s ++ (get_or s k 0 ∷ [])
+bytes_more s k h = rw (add-one, take-suc s k 0)
 
 -- ---- written, then read
 
@@ -102,46 +102,46 @@ number_same zero s t i j each = refl
 number_same (suc w) s t i j each =
     ap₂ (λ (a b : ℕ). a * 256 + b) (number_same w s t i j (λ b h. each b (omega arith))) (each w (omega arith))
 
-number-of-bytes : (w x : ℕ) → number_at w (bytes_of w x) 0 ≡ x % 256 ^ w
+number_of_bytes : (w x : ℕ) → number_at w (bytes_of w x) 0 ≡ x % 256 ^ w
 unfolding number_at bytes_of
-number-of-bytes zero x = sym (mod-one x)
-number-of-bytes (suc w) x =
+number_of_bytes zero x = sym (mod-one x)
+number_of_bytes (suc w) x =
     let high = bytes_of w (x / 256) in
-    let long : length high ≡ w = length-bytesOf w (x / 256) in
+    let long : length high ≡ w = length_bytes_of w (x / 256) in
     let a : number_at w (high ++ (x % 256 ∷ [])) 0 ≡ x / 256 % 256 ^ w =
-    number_same w (high ++ (x % 256 ∷ [])) high 0 0 (λ b h. get_or-append high (x % 256 ∷ []) 0 (0 + b) (omega arith)) ∙ number-of-bytes w (x / 256) in
+    number_same w (high ++ (x % 256 ∷ [])) high 0 0 (λ b h. get_or-append high (x % 256 ∷ []) 0 (0 + b) (omega arith)) ∙ number_of_bytes w (x / 256) in
     let b : get_or (high ++ (x % 256 ∷ [])) (0 + w) 0 ≡ x % 256 = get_or_at high (x % 256) [] 0 (0 + w) (omega arith) in
-    ap₂ (λ (p q : ℕ). p * 256 + q) a b ∙ sym (ap (λ (m : ℕ). x % m) (pow-suc 256 w) ∙ mod-mul x (pow-256 w) (omega arith))
+    ap₂ (λ (p q : ℕ). p * 256 + q) a b ∙ sym (ap (λ (m : ℕ). x % m) (pow-suc 256 w) ∙ mod-mul x (pow_256 w) (omega arith))
 
 -- the bytes of the field at k
-field-bytes : (w : ℕ) (v : List ℕ) (k : ℕ) → k < length v → take w (drop (w * k) (fields_of w v)) ≡ bytes_of w (get_or v k 0)
+field_bytes : (w : ℕ) (v : List ℕ) (k : ℕ) → k < length v → take w (drop (w * k) (fields_of w v)) ≡ bytes_of w (get_or v k 0)
 unfolding fields_of
-field-bytes w [] k h = absurd (not-suc-le-zero h)
-field-bytes w (x ∷ v) zero h =
-    ap (λ (i : ℕ). take w (drop i (bytes_of w x ++ fields_of w v))) (mul-zero w) ∙ take_at (bytes_of w x) (fields_of w v) w (length-bytesOf w x)
-field-bytes w (x ∷ v) (suc k) h =
+field_bytes w [] k h = absurd (not-suc-le-zero h)
+field_bytes w (x ∷ v) zero h =
+    ap (λ (i : ℕ). take w (drop i (bytes_of w x ++ fields_of w v))) (mul-zero w) ∙ take_at (bytes_of w x) (fields_of w v) w (length_bytes_of w x)
+field_bytes w (x ∷ v) (suc k) h =
     ap (λ (i : ℕ). take w (drop i (bytes_of w x ++ fields_of w v))) (mul-suc w k ∙ add_comm (w * k) w)
-    ∙ ap (take w) (sym (drop-drop (w * k) w (bytes_of w x ++ fields_of w v)) ∙ ap (drop (w * k)) (drop_at (bytes_of w x) (fields_of w v) w (length-bytesOf w x)))
-    ∙ field-bytes w v k (le_of_suc-le-suc h)
+    ∙ ap (take w) (sym (drop-drop (w * k) w (bytes_of w x ++ fields_of w v)) ∙ ap (drop (w * k)) (drop_at (bytes_of w x) (fields_of w v) w (length_bytes_of w x)))
+    ∙ field_bytes w v k (le_of_suc-le-suc h)
 
-field-alone : (w : ℕ) (v : List ℕ) (k : ℕ) → k < length v → number_at w (fields_of w v) (w * k) ≡ get_or v k 0 % 256 ^ w
-field-alone w v k h =
+field_alone : (w : ℕ) (v : List ℕ) (k : ℕ) → k < length v → number_at w (fields_of w v) (w * k) ≡ get_or v k 0 % 256 ^ w
+field_alone w v k h =
     number_same w (fields_of w v) (bytes_of w (get_or v k 0)) (w * k) 0
     (λ b g.
     sym (get_or-drop (w * k) (fields_of w v) b 0) ∙ sym (get_or-take w (drop (w * k) (fields_of w v)) b 0 g)
-    ∙ ap₂ (λ (l : List ℕ) (i : ℕ). get_or l i 0) (field-bytes w v k h) (sym (zero-add b)))
-    ∙ number-of-bytes w (get_or v k 0)
+    ∙ ap₂ (λ (l : List ℕ) (i : ℕ). get_or l i 0) (field_bytes w v k h) (sym (zero-add b)))
+    ∙ number_of_bytes w (get_or v k 0)
 
 -- a field between what stands before and what stands after
-pub field-written : (w : ℕ) (before v after : List ℕ) (a k : ℕ) → length before ≡ a → k < length v → get_or v k 0 < 256 ^ w
+pub field_written : (w : ℕ) (before v after : List ℕ) (a k : ℕ) → length before ≡ a → k < length v → get_or v k 0 < 256 ^ w
     → number_at w (before ++ (fields_of w v ++ after)) (a + w * k) ≡ get_or v k 0
-field-written w before v after a k here h fits =
-    number_same w (before ++ (fields_of w v ++ after)) (fields_of w v) (a + w * k) (w * k) each ∙ field-alone w v k h ∙ mod-eq_of_lt fits
+field_written w before v after a k here h fits =
+    number_same w (before ++ (fields_of w v ++ after)) (fields_of w v) (a + w * k) (w * k) each ∙ field_alone w v k h ∙ mod-eq_of_lt fits
   where
     inside : w * k + w ≤ length (fields_of w v)
     inside =
         let most : w * suc k ≤ w * length v = mul-le-mul_left w h in
-        omega (arith, mul-suc w k, length-fieldsOf w v)
+        omega (arith, mul-suc w k, length_fields_of w v)
 
     each : (b : ℕ) → b < w → get_or (before ++ (fields_of w v ++ after)) (a + w * k + b) 0 ≡ get_or (fields_of w v) (w * k + b) 0
     each b g =
@@ -168,7 +168,7 @@ fields_read w zero s i small h = rw mul-zero
 fields_read w (suc n) s i small h =
     let f : ℕ → ℕ = λ k. number_at w s (i + w * k) in
     let m = mul-suc w n in
-    fieldsOf-append w (table n f) (f n ∷ [])
-    ∙ ap₂ (λ (a b : List ℕ). a ++ b) (fields_read w n s i small (omega arith)) (fieldsOf-one w (f n) ∙ bytes_read w s (i + w * n) small (omega arith))
+    fields_of_append w (table n f) (f n ∷ [])
+    ∙ ap₂ (λ (a b : List ℕ). a ++ b) (fields_read w n s i small (omega arith)) (fields_of_one w (f n) ∙ bytes_read w s (i + w * n) small (omega arith))
     ∙ ap (λ (l : List ℕ). take (w * n) (drop i s) ++ take w l) (sym (drop-drop (w * n) i s))
     ∙ sym (rw m (take-add (w * n) w (drop i s)))

@@ -4,7 +4,7 @@ pub mod bytes;
 mod turning;
 
 ghost use Rattle.std.specs.Prelude.{◌≡◌, ◌≤◌, max};
-ghost use Rattle.vectors.specs.Vectors.{within, same, zeroAbove, maxes};
+ghost use Rattle.vectors.specs.Vectors.{within, same, zero_above, maxes};
 
 // Whether every entry of a is at most b's.
 pub fn is_within(a: [u16; 16], b: [u16; 16]) -> bool
@@ -31,7 +31,7 @@ pub fn is_same(a: [u16; 16], b: [u16; 16]) -> bool
 // Whether every entry above n is 0. The callers have found n to be in range.
 pub fn is_zero_above(n: usize, v: [u16; 16]) -> bool
     requires { n ≤ 16 }
-    ensures { result ≡ zeroAbove n v }
+    ensures { result ≡ zero_above n v }
 {
     let mut above: u16 = 0;
     for k in n..16 {
@@ -42,7 +42,7 @@ pub fn is_zero_above(n: usize, v: [u16; 16]) -> bool
 
 // Whether every word is 0.
 pub fn is_zero(words: [u64; 16]) -> bool
-    ensures { result ≡ zeroAbove 0 words }
+    ensures { result ≡ zero_above 0 words }
 {
     let mut gathered: u64 = 0;
     for k in 0..16 {

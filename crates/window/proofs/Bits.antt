@@ -11,13 +11,13 @@ use lib.Bits.{bit_or, or_shr, or_step}
 use lib.Count.{count_trailing_zeros, under}
 use lib.Dec.{eqb, eqb-zero-suc, eqb-suc-zero, eqb-suc-suc}
 use lib.Pow.{pow_mono, shr-shr}
-use Rattle.window.specs.Window.{bit, trailingOnes}
+use Rattle.window.specs.Window.{bit, trailing_ones}
 
 -- ---- truth values and digits
 
-pub true-or-false : (a : Bool) → (a ≡ true) ⊎ (a ≡ false)
-true-or-false true = inl refl
-true-or-false false = inr refl
+pub true_or_false : (a : Bool) → (a ≡ true) ⊎ (a ≡ false)
+true_or_false true = inl refl
+true_or_false false = inr refl
 
 digit : (d : ℕ) → d < 2 → (d ≡ 0) ⊎ (d ≡ 1)
 digit zero h = inl refl
@@ -25,100 +25,100 @@ digit (suc d) h = inr (omega arith)
 
 -- ---- one bit
 
-pub lowest-bit : (word : ℕ) → bit word 0 ≡ eqb (word % 2) 1
+pub lowest_bit : (word : ℕ) → bit word 0 ≡ eqb (word % 2) 1
 unfolding bit
-lowest-bit word = rw div-one
+lowest_bit word = rw div-one
 
-pub even-is-clear : (word : ℕ) → eqb (word % 2) 0 ≡ not (bit word 0)
-even-is-clear word = rw lowest-bit (⊎_elim (λ e. rw e) (λ e. rw e) (digit (word % 2) (omega arith)))
+pub even_is_clear : (word : ℕ) → eqb (word % 2) 0 ≡ not (bit word 0)
+even_is_clear word = rw lowest_bit (⊎_elim (λ e. rw e) (λ e. rw e) (digit (word % 2) (omega arith)))
 
 pub bit_moved : (word t j : ℕ) → bit (word / 2 ^ t) j ≡ bit word (t + j)
 unfolding bit
 bit_moved word t j = rw shr-shr
 
-bit-next : (word j : ℕ) → bit word (suc j) ≡ bit (word / 2) j
-bit-next word j = rw (← one-add j) (sym (bit_moved word 1 j))
+bit_next : (word j : ℕ) → bit word (suc j) ≡ bit (word / 2) j
+bit_next word j = rw (← one-add j) (sym (bit_moved word 1 j))
 
-pub bit-none : (j : ℕ) → bit 0 j ≡ false
+pub bit_none : (j : ℕ) → bit 0 j ≡ false
 unfolding bit
-bit-none j = rw zero-div
+bit_none j = rw zero-div
 
 -- a word has no bit above its width, and the highest is set
-pub bit-above : (word k j : ℕ) → word < 2 ^ k → k ≤ j → bit word j ≡ false
+pub bit_above : (word k j : ℕ) → word < 2 ^ k → k ≤ j → bit word j ≡ false
 unfolding bit
-bit-above word k j h l = rw (div-eq_of_lt (lt_of_lt_of_le h (pow_mono l)))
+bit_above word k j h l = rw (div-eq_of_lt (lt_of_lt_of_le h (pow_mono l)))
 
-pub highest-is-set : (word j : ℕ) → 2 ^ j ≤ word → word < 2 ^ suc j → bit word j ≡ true
+pub highest_is_set : (word j : ℕ) → 2 ^ j ≤ word → word < 2 ^ suc j → bit word j ≡ true
 unfolding bit
-highest-is-set word j h l =
+highest_is_set word j h l =
     let one : word / 2 ^ j ≡ 1 = div-eq_of_lt-le {k = 1} (2 ^ j) (omega arith) (omega (arith, pow-suc 2 j)) in
     rw one
 
 -- ---- an or, and a power of two
 
-max-is-or : (d e : ℕ) → d < 2 → e < 2 → eqb (max d e) 1 ≡ (eqb d 1 || eqb e 1)
-max-is-or d e h l =
+max_is_or : (d e : ℕ) → d < 2 → e < 2 → eqb (max d e) 1 ≡ (eqb d 1 || eqb e 1)
+max_is_or d e h l =
     ⊎_elim (λ (a : d ≡ 0). ⊎_elim (λ (b : e ≡ 0). rw (a, b)) (λ (b : e ≡ 1). rw (a, b)) (digit e l))
     (λ (a : d ≡ 1). ⊎_elim (λ (b : e ≡ 0). rw (a, b)) (λ (b : e ≡ 1). rw (a, b)) (digit e l)) (digit d h)
 
-lowest-of-or : (x y : ℕ) → bit_or x y % 2 ≡ max (x % 2) (y % 2)
-lowest-of-or x y = ap (λ (n : ℕ). n % 2) (or_step x y) ∙ digits_mod (bit_or (x / 2) (y / 2)) (omega arith)
+lowest_of_or : (x y : ℕ) → bit_or x y % 2 ≡ max (x % 2) (y % 2)
+lowest_of_or x y = ap (λ (n : ℕ). n % 2) (or_step x y) ∙ digits_mod (bit_or (x / 2) (y / 2)) (omega arith)
 
-pub bit-or : (x y j : ℕ) → bit (bit_or x y) j ≡ (bit x j || bit y j)
+pub bit_or : (x y j : ℕ) → bit (bit_or x y) j ≡ (bit x j || bit y j)
 unfolding bit
-bit-or x y j = rw (or_shr x y j, lowest-of-or (x / 2 ^ j) (y / 2 ^ j)) (max-is-or (x / 2 ^ j % 2) (y / 2 ^ j % 2) (omega arith) (omega arith))
+bit_or x y j = rw (or_shr x y j, lowest_of_or (x / 2 ^ j) (y / 2 ^ j)) (max_is_or (x / 2 ^ j % 2) (y / 2 ^ j % 2) (omega arith) (omega arith))
 
 -- the one bit of a power of two
-pub bit-power : (b j : ℕ) → bit (2 ^ b) j ≡ eqb j b
-bit-power zero zero = lowest-bit 1
-bit-power zero (suc j) = bit-next 1 j ∙ bit-none j ∙ sym (eqb-suc-zero j)
-bit-power (suc b) zero =
+pub bit_power : (b j : ℕ) → bit (2 ^ b) j ≡ eqb j b
+bit_power zero zero = lowest_bit 1
+bit_power zero (suc j) = bit_next 1 j ∙ bit_none j ∙ sym (eqb-suc-zero j)
+bit_power (suc b) zero =
     let even : 2 ^ suc b % 2 ≡ 0 = omega (arith, pow-suc 2 b) in
-    lowest-bit (2 ^ suc b) ∙ rw even (sym (eqb-zero-suc b))
-bit-power (suc b) (suc j) =
+    lowest_bit (2 ^ suc b) ∙ rw even (sym (eqb-zero-suc b))
+bit_power (suc b) (suc j) =
     let half : 2 ^ suc b / 2 ≡ 2 ^ b = omega (arith, pow-suc 2 b) in
-    bit-next (2 ^ suc b) j ∙ rw half (bit-power b j ∙ sym (eqb-suc-suc j b))
+    bit_next (2 ^ suc b) j ∙ rw half (bit_power b j ∙ sym (eqb-suc-suc j b))
 
 -- ---- the ones below the first zero
 
-ones-more : (k word : ℕ) → bit word 0 ≡ true → trailingOnes (suc k) word ≡ suc (trailingOnes k (word / 2))
-unfolding trailingOnes
-ones-more k word e = rw e
+ones_more : (k word : ℕ) → bit word 0 ≡ true → trailing_ones (suc k) word ≡ suc (trailing_ones k (word / 2))
+unfolding trailing_ones
+ones_more k word e = rw e
 
-ones-end : (k word : ℕ) → bit word 0 ≡ false → trailingOnes (suc k) word ≡ 0
-unfolding trailingOnes
-ones-end k word e = rw e
+ones_end : (k word : ℕ) → bit word 0 ≡ false → trailing_ones (suc k) word ≡ 0
+unfolding trailing_ones
+ones_end k word e = rw e
 
-pub ones_at_most : (k word : ℕ) → trailingOnes k word ≤ k
-unfolding trailingOnes
+pub ones_at_most : (k word : ℕ) → trailing_ones k word ≤ k
+unfolding trailing_ones
 ones_at_most zero word = zero-le
 ones_at_most (suc k) word =
-    ⊎_elim (λ e. omega (arith, ones-more k word e, ones_at_most k (word / 2))) (λ e. omega (arith, ones-end k word e)) (true-or-false (bit word 0))
+    ⊎_elim (λ e. omega (arith, ones_more k word e, ones_at_most k (word / 2))) (λ e. omega (arith, ones_end k word e)) (true_or_false (bit word 0))
 
-pub ones-are-set : (k word j : ℕ) → j < trailingOnes k word → bit word j ≡ true
-unfolding trailingOnes
-ones-are-set zero word j h = absurd (not-suc-le-zero h)
-ones-are-set (suc k) word zero h = ⊎_elim (λ e. e) (λ e. absurd (omega (arith, ones-end k word e))) (true-or-false (bit word 0))
-ones-are-set (suc k) word (suc j) h =
-    ⊎_elim (λ e. bit-next word j ∙ ones-are-set k (word / 2) j (omega (arith, ones-more k word e))) (λ e. absurd (omega (arith, ones-end k word e)))
-    (true-or-false (bit word 0))
+pub ones_are_set : (k word j : ℕ) → j < trailing_ones k word → bit word j ≡ true
+unfolding trailing_ones
+ones_are_set zero word j h = absurd (not-suc-le-zero h)
+ones_are_set (suc k) word zero h = ⊎_elim (λ e. e) (λ e. absurd (omega (arith, ones_end k word e))) (true_or_false (bit word 0))
+ones_are_set (suc k) word (suc j) h =
+    ⊎_elim (λ e. bit_next word j ∙ ones_are_set k (word / 2) j (omega (arith, ones_more k word e))) (λ e. absurd (omega (arith, ones_end k word e)))
+    (true_or_false (bit word 0))
 
-pub next-is-clear : (k word : ℕ) → word < 2 ^ k → bit word (trailingOnes k word) ≡ false
-unfolding trailingOnes
-next-is-clear zero word h = rw (lt-one h) (bit-none 0)
-next-is-clear (suc k) word h =
-    ⊎_elim (λ e. rw (ones-more k word e) (bit-next word (trailingOnes k (word / 2)) ∙ next-is-clear k (word / 2) (omega (arith, pow-suc 2 k))))
-    (λ e. rw (ones-end k word e) e) (true-or-false (bit word 0))
+pub next_is_clear : (k word : ℕ) → word < 2 ^ k → bit word (trailing_ones k word) ≡ false
+unfolding trailing_ones
+next_is_clear zero word h = rw (lt-one h) (bit_none 0)
+next_is_clear (suc k) word h =
+    ⊎_elim (λ e. rw (ones_more k word e) (bit_next word (trailing_ones k (word / 2)) ∙ next_is_clear k (word / 2) (omega (arith, pow-suc 2 k))))
+    (λ e. rw (ones_end k word e) e) (true_or_false (bit word 0))
 
 -- they are the complement's zeros
-under-complement : (d t : ℕ) → d < 2 → under (1 - d) t ≡ cond (eqb d 1) (suc t) 0
-under-complement d t h = ⊎_elim (λ e. rw e) (λ e. rw e) (digit d h)
+under_complement : (d t : ℕ) → d < 2 → under (1 - d) t ≡ cond (eqb d 1) (suc t) 0
+under_complement d t h = ⊎_elim (λ e. rw e) (λ e. rw e) (digit d h)
 
-pub zeros-of-complement : (k word : ℕ) → word < 2 ^ k → count_trailing_zeros k ((2 ^ k - 1) - word) ≡ trailingOnes k word
-unfolding count_trailing_zeros trailingOnes
-zeros-of-complement zero word h = refl
-zeros-of-complement (suc k) word h =
+pub zeros_of_complement : (k word : ℕ) → word < 2 ^ k → count_trailing_zeros k ((2 ^ k - 1) - word) ≡ trailing_ones k word
+unfolding count_trailing_zeros trailing_ones
+zeros_of_complement zero word h = refl
+zeros_of_complement (suc k) word h =
     let last : ((2 ^ suc k - 1) - word) % 2 ≡ 1 - word % 2 = omega (arith, pow-suc 2 k) in
     let half : ((2 ^ suc k - 1) - word) / 2 ≡ (2 ^ k - 1) - word / 2 = omega (arith, pow-suc 2 k) in
-    let rest = zeros-of-complement k (word / 2) (omega (arith, pow-suc 2 k)) in
-    rw (last, half, rest, lowest-bit word) (under-complement (word % 2) (trailingOnes k (word / 2)) (omega arith))
+    let rest = zeros_of_complement k (word / 2) (omega (arith, pow-suc 2 k)) in
+    rw (last, half, rest, lowest_bit word) (under_complement (word % 2) (trailing_ones k (word / 2)) (omega arith))

@@ -10,24 +10,24 @@ use borrow.Author.Tests.{eq-eqb, ne_eqb, le-leb, lt-leb, leb-true}
 use lib.Bits.{or_lt}
 use lib.Dec.{leb, eqb}
 use lib.Pow.{pow-lt, shr_le}
-use Rattle.window.specs.Window.{bit, place, handed, trailingOnes, marked, advanced, handedOver}
+use Rattle.window.specs.Window.{bit, place, handed, trailing_ones, marked, advanced, handed_over}
 use Rattle.window.specs.declared.Window.{Window}
-use Rattle.window.proofs.Bits.{bit_moved, bit-or, bit-power, ones-are-set, next-is-clear}
+use Rattle.window.proofs.Bits.{bit_moved, bit_or, bit_power, ones_are_set, next_is_clear}
 
 -- ---- one number
 
-pub up-to-run-is-handed : (w : Window) (t : ℕ) → t ≤ w.run → handed w t ≡ true
+pub up_to_run_is_handed : (w : Window) (t : ℕ) → t ≤ w.run → handed w t ≡ true
 unfolding handed
-up-to-run-is-handed w t h = rw (le-leb t w.run h)
+up_to_run_is_handed w t h = rw (le-leb t w.run h)
 
-pub above-run-is-its-bit : (w : Window) (t : ℕ) → w.run < t → handed w t ≡ bit w.ahead (place w t)
+pub above_run_is_its_bit : (w : Window) (t : ℕ) → w.run < t → handed w t ≡ bit w.ahead (place w t)
 unfolding handed
-above-run-is-its-bit w t h = rw (lt-leb t w.run h)
+above_run_is_its_bit w t h = rw (lt-leb t w.run h)
 
-pub not-handed-is-above-run : (w : Window) (t : ℕ) → handed w t ≡ false → w.run < t
-not-handed-is-above-run w t e =
+pub not_handed_is_above_run : (w : Window) (t : ℕ) → handed w t ≡ false → w.run < t
+not_handed_is_above_run w t e =
     elim (dec_le t w.run) [
-      | yes low ↦ absurd (true≢false (sym (up-to-run-is-handed w t low) ∙ e))
+      | yes low ↦ absurd (true≢false (sym (up_to_run_is_handed w t low) ∙ e))
       | no high ↦ omega arith
     ]
 
@@ -40,76 +40,76 @@ same_place w s t h l =
       | no n ↦ ne_eqb (place w t) (place w s) (λ e. n (omega arith)) ∙ sym (ne_eqb t s n)
     ]
 
-pub marking-adds-one : (w : Window) (s t : ℕ) → w.run < s → handed (marked w s) t ≡ (handed w t || eqb t s)
+pub marking_adds_one : (w : Window) (s t : ℕ) → w.run < s → handed (marked w s) t ≡ (handed w t || eqb t s)
 unfolding marked
-marking-adds-one w s t h =
+marking_adds_one w s t h =
     elim (dec_le t w.run) [
-      | yes low ↦ up-to-run-is-handed (marked w s) t low ∙ sym (rw (up-to-run-is-handed w t low))
+      | yes low ↦ up_to_run_is_handed (marked w s) t low ∙ sym (rw (up_to_run_is_handed w t low))
       | no high ↦ let l : w.run < t = omega arith in
-          above-run-is-its-bit (marked w s) t l ∙ bit-or w.ahead (2 ^ place w s) (place w t)
-          ∙ ap₂ ◌||◌ (sym (above-run-is-its-bit w t l)) (bit-power (place w s) (place w t) ∙ same_place w s t h l)
+          above_run_is_its_bit (marked w s) t l ∙ bit_or w.ahead (2 ^ place w s) (place w t)
+          ∙ ap₂ ◌||◌ (sym (above_run_is_its_bit w t l)) (bit_power (place w s) (place w t) ∙ same_place w s t h l)
     ]
 
-pub advancing-adds-none : (w : Window) (t : ℕ) → handed (advanced w) t ≡ handed w t
+pub advancing_adds_none : (w : Window) (t : ℕ) → handed (advanced w) t ≡ handed w t
 unfolding advanced
-advancing-adds-none w t =
-    let ones = trailingOnes 64 w.ahead in
+advancing_adds_none w t =
+    let ones = trailing_ones 64 w.ahead in
     elim (dec_le t w.run) [
-      | yes low ↦ up-to-run-is-handed (advanced w) t (omega arith) ∙ sym (up-to-run-is-handed w t low)
+      | yes low ↦ up_to_run_is_handed (advanced w) t (omega arith) ∙ sym (up_to_run_is_handed w t low)
       | no high ↦ let l : w.run < t = omega arith in
           elim (dec_le t (w.run + ones)) [
-            | yes in_ones ↦ up-to-run-is-handed (advanced w) t in_ones ∙ sym (above-run-is-its-bit w t l ∙ ones-are-set 64 w.ahead (place w t) (omega arith))
+            | yes in_ones ↦ up_to_run_is_handed (advanced w) t in_ones ∙ sym (above_run_is_its_bit w t l ∙ ones_are_set 64 w.ahead (place w t) (omega arith))
             | no above ↦ let further : ones + place (advanced w) t ≡ place w t = omega arith in
-                above-run-is-its-bit (advanced w) t (omega arith) ∙ bit_moved w.ahead ones (place (advanced w) t) ∙ rw further (sym (above-run-is-its-bit w t l))
+                above_run_is_its_bit (advanced w) t (omega arith) ∙ bit_moved w.ahead ones (place (advanced w) t) ∙ rw further (sym (above_run_is_its_bit w t l))
           ]
     ]
 
-pub marked-fits : (w : Window) (s : ℕ) → s ≤ w.run + 64 → w.ahead < 2 ^ 64 → (marked w s).ahead < 2 ^ 64
+pub marked_fits : (w : Window) (s : ℕ) → s ≤ w.run + 64 → w.ahead < 2 ^ 64 → (marked w s).ahead < 2 ^ 64
 unfolding marked
-marked-fits w s l fits = or_lt 64 w.ahead (2 ^ place w s) fits (pow-lt {j = 64} (omega arith))
+marked_fits w s l fits = or_lt 64 w.ahead (2 ^ place w s) fits (pow-lt {j = 64} (omega arith))
 
 -- ---- handing over
 
 module _ (w : Window) (s : ℕ) where
-  pub run-does-not-fall : w.run ≤ (handedOver w s).run
-  unfolding handedOver advanced marked
-  run-does-not-fall = omega arith
+  pub run_does_not_fall : w.run ≤ (handed_over w s).run
+  unfolding handed_over advanced marked
+  run_does_not_fall = omega arith
 
-  pub handing-over-adds-one : (t : ℕ) → w.run < s → handed (handedOver w s) t ≡ (handed w t || eqb t s)
-  unfolding handedOver
-  handing-over-adds-one t h = advancing-adds-none (marked w s) t ∙ marking-adds-one w s t h
+  pub handing_over_adds_one : (t : ℕ) → w.run < s → handed (handed_over w s) t ≡ (handed w t || eqb t s)
+  unfolding handed_over
+  handing_over_adds_one t h = advancing_adds_none (marked w s) t ∙ marking_adds_one w s t h
 
-  pub handed-over-fits : s ≤ w.run + 64 → w.ahead < 2 ^ 64 → (handedOver w s).ahead < 2 ^ 64
-  unfolding handedOver advanced
-  handed-over-fits l fits = lt_of_le_of_lt (shr_le (marked w s).ahead _) (marked-fits w s l fits)
+  pub handed_over_fits : s ≤ w.run + 64 → w.ahead < 2 ^ 64 → (handed_over w s).ahead < 2 ^ 64
+  unfolding handed_over advanced
+  handed_over_fits l fits = lt_of_le_of_lt (shr_le (marked w s).ahead _) (marked_fits w s l fits)
 
-  pub handed-over-clears-next : s ≤ w.run + 64 → w.ahead < 2 ^ 64 → bit (handedOver w s).ahead 0 ≡ false
-  unfolding handedOver advanced
-  handed-over-clears-next l fits =
+  pub handed_over_clears_next : s ≤ w.run + 64 → w.ahead < 2 ^ 64 → bit (handed_over w s).ahead 0 ≡ false
+  unfolding handed_over advanced
+  handed_over_clears_next l fits =
       let word = (marked w s).ahead in
-      bit_moved word (trailingOnes 64 word) 0 ∙ rw add-zero (next-is-clear 64 word (marked-fits w s l fits))
+      bit_moved word (trailing_ones 64 word) 0 ∙ rw add-zero (next_is_clear 64 word (marked_fits w s l fits))
 
 -- ---- run, where bit 0 of ahead is clear
 
-pub next-is-not-handed : (w : Window) → bit w.ahead 0 ≡ false → handed w (w.run + 1) ≡ false
-next-is-not-handed w clear =
+pub next_is_not_handed : (w : Window) → bit w.ahead 0 ≡ false → handed w (w.run + 1) ≡ false
+next_is_not_handed w clear =
     let first : place w (w.run + 1) ≡ 0 = omega arith in
-    above-run-is-its-bit w (w.run + 1) (omega arith) ∙ rw first clear
+    above_run_is_its_bit w (w.run + 1) (omega arith) ∙ rw first clear
 
-pub run-is-the-largest : (w : Window) → bit w.ahead 0 ≡ false → ((t : ℕ) → t ≤ w.run → handed w t ≡ true) × (handed w (w.run + 1) ≡ false)
-run-is-the-largest w clear = (up-to-run-is-handed w, next-is-not-handed w clear)
+pub run_is_the_largest : (w : Window) → bit w.ahead 0 ≡ false → ((t : ℕ) → t ≤ w.run → handed w t ≡ true) × (handed w (w.run + 1) ≡ false)
+run_is_the_largest w clear = (up_to_run_is_handed w, next_is_not_handed w clear)
 
 -- line 5's test on run is a test on the set
-pub run-test-is-set-test : (w : Window) (b : ℕ) → bit w.ahead 0 ≡ false
+pub run_test_is_set_test : (w : Window) (b : ℕ) → bit w.ahead 0 ≡ false
     → (leb b w.run ≡ true → (t : ℕ) → 1 ≤ t → t ≤ b → handed w t ≡ true) × (((t : ℕ) → 1 ≤ t → t ≤ b → handed w t ≡ true) → leb b w.run ≡ true)
-run-test-is-set-test w b clear = (there, back)
+run_test_is_set_test w b clear = (there, back)
   where
     there : leb b w.run ≡ true → (t : ℕ) → 1 ≤ t → t ≤ b → handed w t ≡ true
-    there e t low high = up-to-run-is-handed w t (omega (arith, leb-true b w.run e))
+    there e t low high = up_to_run_is_handed w t (omega (arith, leb-true b w.run e))
 
     back : ((t : ℕ) → 1 ≤ t → t ≤ b → handed w t ≡ true) → leb b w.run ≡ true
     back each =
         elim (dec_le b w.run) [
           | yes low ↦ le-leb b w.run low
-          | no high ↦ absurd (true≢false (sym (each (w.run + 1) (omega arith) (omega arith)) ∙ next-is-not-handed w clear))
+          | no high ↦ absurd (true≢false (sym (each (w.run + 1) (omega arith) (omega arith)) ∙ next_is_not_handed w clear))
         ]

@@ -17,35 +17,35 @@ unfoldable pub handed : Window → ℕ → Bool
 handed w s = leb s w.run || bit w.ahead (place w s)
 
 -- Every number marked in ahead is at most a bound.
-unfoldable pub noneAbove : ℕ → Window → Bool
-noneAbove bound w = all 64 (λ b. not (bit w.ahead b) || leb (w.run + 1 + b) bound)
+unfoldable pub none_above : ℕ → Window → Bool
+none_above bound w = all 64 (λ b. not (bit w.ahead b) || leb (w.run + 1 + b) bound)
 
 -- The same as a plain fact.
 abbrev pub NoneAbove : ℕ → Window → Type 0
 NoneAbove bound w = (b : ℕ) → b < 64 → bit w.ahead b ≡ true → w.run + 1 + b ≤ bound
 
 -- Bit 0 of ahead is clear; run and every number marked in ahead are at most past.
-unfoldable pub soundWindow : ℕ → Window → Bool
-soundWindow past w = leb w.run past && (not (bit w.ahead 0) && noneAbove past w)
+unfoldable pub sound_window : ℕ → Window → Bool
+sound_window past w = leb w.run past && (not (bit w.ahead 0) && none_above past w)
 
 -- The same in plain facts.
 pub record SoundWindow (past : ℕ) (w : Window) : Type 0 where
-  pub next-clear : bit w.ahead 0 ≡ false
-  pub run-within : w.run ≤ past
-  pub marks-within : NoneAbove past w
+  pub next_clear : bit w.ahead 0 ≡ false
+  pub run_within : w.run ≤ past
+  pub marks_within : NoneAbove past w
 
 -- Nothing is handed over.
-abbrev pub freshWindow : Window
-freshWindow = record { run = 0; ahead = 0 }
+abbrev pub fresh_window : Window
+fresh_window = record { run = 0; ahead = 0 }
 
 -- Number s is marked.
 unfoldable pub marked : Window → ℕ → Window
 marked w s = record { run = w.run; ahead = bit_or w.ahead (2 ^ place w s) }
 
 -- How many bits of a word of k bits are set below the first that is clear.
-unfoldable pub trailingOnes : ℕ → ℕ → ℕ
-trailingOnes zero word = 0
-trailingOnes (suc k) word = cond (bit word 0) (suc (trailingOnes k (word / 2))) 0
+unfoldable pub trailing_ones : ℕ → ℕ → ℕ
+trailing_ones zero word = 0
+trailing_ones (suc k) word = cond (bit word 0) (suc (trailing_ones k (word / 2))) 0
 
 -- Run moved up, and ahead moved down by as many.
 abbrev pub moved : Window → ℕ → Window
@@ -53,8 +53,8 @@ moved w count = record { run = w.run + count; ahead = w.ahead / 2 ^ count }
 
 -- Run advances over the unbroken run of marked numbers.
 unfoldable pub advanced : Window → Window
-advanced w = moved w (trailingOnes 64 w.ahead)
+advanced w = moved w (trailing_ones 64 w.ahead)
 
 -- Number s is marked, and run advances.
-unfoldable pub handedOver : Window → ℕ → Window
-handedOver w s = advanced (marked w s)
+unfoldable pub handed_over : Window → ℕ → Window
+handed_over w s = advanced (marked w s)

@@ -1,7 +1,7 @@
 // Run and ahead of one sender (document 01, "Numbers of a seat"): which of its edits are handed over, and handing over
 // one more.
 ghost use Rattle.std.specs.Prelude.{◌≡◌, true, ◌+◌, ◌≤◌, ◌<◌};
-ghost use Rattle.window.specs.Window.{place, handed, noneAbove, soundWindow, marked, advanced, handedOver};
+ghost use Rattle.window.specs.Window.{place, handed, none_above, sound_window, marked, advanced, handed_over};
 
 use answers::EditNo;
 
@@ -38,14 +38,14 @@ impl Window {
     // Whether no number above a bound is marked: by the highest bit that is set. The caller has found run to be within.
     fn none_above(self, bound: u16) -> bool
         requires { self.run ≤ bound }
-        ensures { result ≡ noneAbove bound self }
+        ensures { result ≡ none_above bound self }
     {
         64 - u64::leading_zeros(self.ahead) <= (bound - self.run) as u32
     }
 
     // Whether the window is sound beside its sender's entry of past.
     pub fn is_sound(self, past: u16) -> bool
-        ensures { result ≡ soundWindow past self }
+        ensures { result ≡ sound_window past self }
     {
         if past < self.run {
             return false;
@@ -73,7 +73,7 @@ impl Window {
 
     // Run moves over the unbroken run of marked numbers. No number above 65,535 is marked, so that run stays a count.
     fn advance(self) -> Window
-        requires { noneAbove 65535 self ≡ true }
+        requires { none_above 65535 self ≡ true }
         ensures { result ≡ advanced self }
     {
         let ones = u64::trailing_zeros(!self.ahead);
@@ -89,8 +89,8 @@ impl Window {
 
     // One more number is handed over. The caller has found it to be new and in the window, and the window to be sound.
     pub fn hand_over(self, number: EditNo) -> Window
-        requires { (self.run < number.0) × (number.0 ≤ self.run + 64) × (noneAbove 65535 self ≡ true) }
-        ensures { result ≡ handedOver self number.0 }
+        requires { (self.run < number.0) × (number.0 ≤ self.run + 64) × (none_above 65535 self ≡ true) }
+        ensures { result ≡ handed_over self number.0 }
     {
         self.mark(number).advance()
     }

@@ -3,14 +3,14 @@ use Prim.Native.Nat.{◌-◌}
 use mathlib.Core.Bool.{Bool, ◌&&◌}
 use mathlib.Core.Path.{ap}
 use lib.ListN.{length, get_or}
-use Rattle.vectors.proofs.Every.{Gathered, gathered_none, gathered-more, gathered-all}
-use Rattle.lines.specs.Lines.{isDigit, digitsAlone}
+use Rattle.vectors.proofs.Every.{Gathered, gathered_none, gathered_more, gathered_all}
+use Rattle.lines.specs.Lines.{is_digit, digits_alone}
 use borrow.Author.Rules.{rules}
 use Rattle.lines.proofs.has_digits_alone.Statement.{statement}
 use Rattle.lines.proofs.has_digits_alone.Tie as tie
 
 abbrev invariant-loop : tie.invariant-loop
-invariant-loop word ok₀ k₀ k-end ok k = Gathered (length word) (λ j. isDigit (get_or word j 0)) k ok
+invariant-loop word ok₀ k₀ k-end ok k = Gathered (length word) (λ j. is_digit (get_or word j 0)) k ok
 
 abbrev decreases-loop : tie.decreases-loop
 decreases-loop word ok₀ k₀ k-end ok k = length word - k
@@ -32,11 +32,11 @@ loop-less c = search rules
 
 loop-again : tie.Need-loop-preserved invariant-loop decreases-loop
 loop-again c = let turn = c.before.before in
-    gathered-more _ _ _ _ _ turn.before.loop.invariant turn.loop-test.true (ap (λ (b : Bool). turn.before.loop.ok && b) c.is_digit.ensures)
+    gathered_more _ _ _ _ _ turn.before.loop.invariant turn.loop-test.true (ap (λ (b : Bool). turn.before.loop.ok && b) c.is_digit.ensures)
 
 returns : tie.Need-returns invariant-loop decreases-loop
-unfolding digitsAlone
-returns c = gathered-all _ _ _ _ c.before.loop.invariant c.loop-test.false
+unfolding digits_alone
+returns c = gathered_all _ _ _ _ c.before.loop.invariant c.loop-test.false
 
 pub has-digits-alone-spec : {M : Type 1} → statement M
 has-digits-alone-spec =

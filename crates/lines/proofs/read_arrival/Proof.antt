@@ -4,9 +4,9 @@ use mathlib.Core.Path.{◌≡◌, sym, ◌∙◌}
 use mathlib.Core.Bool.{true, ◌&&◌}
 use borrow.Author.Tests.{not-true, not-false}
 use lib.ListN.{take}
-use Rattle.lines.specs.Lines.{words, isNumber}
+use Rattle.lines.specs.Lines.{words, is_number}
 use Rattle.lines.specs.declared.Step.TheVariants.{Arrive}
-use Rattle.lines.proofs.Grammar.{behind, words-of-one, words-of-more, word-long, three-numbers, arrival-of-one, arrival-of-two, arrival-of-many, arrival-of-three}
+use Rattle.lines.proofs.Grammar.{behind, words_of_one, words_of_more, word_long, three_numbers, arrival_of_one, arrival_of_two, arrival_of_many, arrival_of_three}
 use borrow.Author.Rules.{rules}
 use Rattle.lines.proofs.read_arrival.Statement.{statement}
 use Rattle.lines.proofs.read_arrival.Tie as tie
@@ -14,43 +14,43 @@ use Rattle.lines.proofs.read_arrival.Tie as tie
 -- a seat, and words behind it
 parted : (c : tie.Else1) → let rest = c.before.before.before.args.rest.now in
     let end = c.before.word-end.result in words rest ≡ take end rest ∷ words (behind rest end)
-parted c = words-of-more _ _ c.before.word-end.ensures c.if1.false
+parted c = words_of_more _ _ c.before.word-end.ensures c.if1.false
 
 -- a sender, and words behind it
 parted-again : (c : tie.Else2) → let word = c.before.before.before.before.before in
     let others = behind word.before.before.args.rest.now word.word-end.result in
     let end = c.before.word-end2.result in words others ≡ take end others ∷ words (behind others end)
-parted-again c = words-of-more _ _ c.before.word-end2.ensures c.if2.false
+parted-again c = words_of_more _ _ c.before.word-end2.ensures c.if2.false
 
 number-alone : (c : tie.Else3) → let second = c.before.before.before.before.before in
     let word = second.before.before.before.before in
     let others = behind word.before.before.args.rest.now word.word-end.result in
     let number = behind others second.word-end2.result in words number ≡ number ∷ []
-number-alone c = words-of-one _ _ c.before.word-end3.ensures c.if3.false
+number-alone c = words_of_one _ _ c.before.word-end3.ensures c.if3.false
 
 numbers-are : (c : tie.After-is-number3) → let second = c.before.before.before.before.before.before.before.before in
     let word = second.before.before.before.before in
     let rest = word.before.before.args.rest.now in
     let others = behind rest word.word-end.result in
     (c.before.before.is_number.result && c.before.is-number2.result && c.is-number3.result)
-    ≡ (isNumber (take word.word-end.result rest) && isNumber (take second.word-end2.result others) && isNumber (behind others second.word-end2.result))
+    ≡ (is_number (take word.word-end.result rest) && is_number (take second.word-end2.result others) && is_number (behind others second.word-end2.result))
 numbers-are c = λ i. c.before.before.is_number.ensures i && c.before.is-number2.ensures i && c.is-number3.ensures i
 
 all-numbers : (c : tie.Else4) → let second = c.before.before.before.before.before.before.before.before.before in
     let word = second.before.before.before.before in
     let rest = word.before.before.args.rest.now in
     let others = behind rest word.word-end.result in
-    (isNumber (take word.word-end.result rest) && isNumber (take second.word-end2.result others) && isNumber (behind others second.word-end2.result)) ≡ true
+    (is_number (take word.word-end.result rest) && is_number (take second.word-end2.result others) && is_number (behind others second.word-end2.result)) ≡ true
 all-numbers c = sym (numbers-are c.before) ∙ not-false _ c.if4.false
 
 word-end-requires : tie.Need-word-end-requires
 word-end-requires c κs = search rules
 
 returns : tie.Need-returns
-returns c = sym (arrival-of-one _ (words-of-one _ _ c.before.word-end.ensures c.if1.true))
+returns c = sym (arrival_of_one _ (words_of_one _ _ c.before.word-end.ensures c.if1.true))
 
 slice-aggregate-seat : tie.Need-slice-aggregate-seat
-slice-aggregate-seat c = word-long _ _ c.before.before.word-end.ensures
+slice-aggregate-seat c = word_long _ _ c.before.before.word-end.ensures
 
 add-sender-at : tie.Need-overflow-add-sender-at
 add-sender-at c = search rules
@@ -69,10 +69,10 @@ word-end-requires-2 c κs = search rules
 
 returns-2 : tie.Need-returns-2
 returns-2 c = let second = c.before in
-    sym (arrival-of-two _ _ _ (parted second.before.before.before) (words-of-one _ _ second.word-end2.ensures c.if2.true))
+    sym (arrival_of_two _ _ _ (parted second.before.before.before) (words_of_one _ _ second.word-end2.ensures c.if2.true))
 
 slice-aggregate-sender : tie.Need-slice-aggregate-sender
-slice-aggregate-sender c = word-long _ _ c.before.before.word-end2.ensures
+slice-aggregate-sender c = word_long _ _ c.before.before.word-end2.ensures
 
 add-number-at : tie.Need-overflow-add-number-at
 add-number-at c = search rules
@@ -92,7 +92,7 @@ word-end-requires-3 c κs = search rules
 returns-3 : tie.Need-returns-3
 returns-3 c = let third = c.before in
     let more = third.before.before.before in
-    sym (arrival-of-many _ _ _ _ _ (parted more.before.before.before.before) (parted-again more) _ _ (words-of-more _ _ third.word-end3.ensures c.if3.true))
+    sym (arrival_of_many _ _ _ _ _ (parted more.before.before.before.before) (parted-again more) _ _ (words_of_more _ _ third.word-end3.ensures c.if3.true))
 
 is-number-requires : tie.Need-is-number-requires
 is-number-requires c κs = search rules
@@ -107,23 +107,23 @@ returns-4 : tie.Need-returns-4
 returns-4 c = let tested = c.before in
     let alone = tested.before.before.before in
     let more = alone.before.before.before.before in
-    sym (arrival-of-three _ _ _ _ _ (parted more.before.before.before.before) (parted-again more) _ (number-alone alone) (sym (numbers-are tested) ∙ not-true _ c.if4.true))
+    sym (arrival_of_three _ _ _ _ _ (parted more.before.before.before.before) (parted-again more) _ (number-alone alone) (sym (numbers-are tested) ∙ not-true _ c.if4.true))
 
 value-of-requires : tie.Need-value-of-requires
-value-of-requires c κs = (three-numbers _ _ _ (all-numbers c)).0
+value-of-requires c κs = (three_numbers _ _ _ (all-numbers c)).0
 
 value-of-requires-2 : tie.Need-value-of-requires-2
-value-of-requires-2 c κs = (three-numbers _ _ _ (all-numbers c.before)).1
+value-of-requires-2 c κs = (three_numbers _ _ _ (all-numbers c.before)).1
 
 value-of-requires-3 : tie.Need-value-of-requires-3
-value-of-requires-3 c κs = (three-numbers _ _ _ (all-numbers c.before.before)).2
+value-of-requires-3 c κs = (three_numbers _ _ _ (all-numbers c.before.before)).2
 
 returns-5 : tie.Need-returns-5
 returns-5 c = let good = c.before.before.before in
     let alone = good.before.before.before.before in
     let more = alone.before.before.before.before in
     (λ i. Arrive (c.before.before.value_of_lem.ensures i) (c.before.value-of2.ensures i) (c.value-of3.ensures i))
-    ∙ sym (arrival-of-three _ _ _ _ _ (parted more.before.before.before.before) (parted-again more) _ (number-alone alone) (all-numbers good))
+    ∙ sym (arrival_of_three _ _ _ _ _ (parted more.before.before.before.before) (parted-again more) _ (number-alone alone) (all-numbers good))
 
 pub read-arrival-spec : {M : Type 1} → statement M
 read-arrival-spec =

@@ -3,7 +3,7 @@ use mathlib.Core.List.{◌∷◌}
 use mathlib.Core.Path.{◌≡◌, sym, ◌∙◌}
 use lib.ListN.{take}
 use Rattle.lines.specs.Lines.{words}
-use Rattle.lines.proofs.Grammar.{behind, words-of-one, words-of-more, word-long, step-of-one, step-of-s, step-of-a, step-of-r, step-of-none}
+use Rattle.lines.proofs.Grammar.{behind, words_of_one, words_of_more, word_long, step_of_one, step_of_s, step_of_a, step_of_r, step_of_none}
 use borrow.Author.Rules.{rules}
 use Rattle.lines.proofs.read_step.Statement.{statement}
 use Rattle.lines.proofs.read_step.Tie as tie
@@ -11,16 +11,16 @@ use Rattle.lines.proofs.read_step.Tie as tie
 -- a letter, and words behind it
 parted : (c : tie.Else1) → let line = c.before.before.before.args.line.now in
     let end = c.before.word-end.result in words line ≡ take end line ∷ words (behind line end)
-parted c = words-of-more _ _ c.before.word-end.ensures c.if1.false
+parted c = words_of_more _ _ c.before.word-end.ensures c.if1.false
 
 word-end-requires : tie.Need-word-end-requires
 word-end-requires c κs = search rules
 
 returns : tie.Need-returns
-returns c = sym (step-of-one _ (words-of-one _ _ c.before.word-end.ensures c.if1.true))
+returns c = sym (step_of_one _ (words_of_one _ _ c.before.word-end.ensures c.if1.true))
 
 slice-aggregate-letter : tie.Need-slice-aggregate-letter
-slice-aggregate-letter c = word-long _ _ c.before.before.word-end.ensures
+slice-aggregate-letter c = word_long _ _ c.before.before.word-end.ensures
 
 add-next : tie.Need-overflow-add-next
 add-next c = search rules
@@ -42,7 +42,7 @@ read-send-requires c κs = search rules
 
 returns-2 : tie.Need-returns-2
 returns-2 c = let s = c.before.before in
-    c.read-send.ensures ∙ sym (step-of-s _ _ _ (parted s.before.before.before) (sym s.is-letter.ensures ∙ c.before.if2.true))
+    c.read-send.ensures ∙ sym (step_of_s _ _ _ (parted s.before.before.before) (sym s.is-letter.ensures ∙ c.before.if2.true))
 
 is-letter-requires-2 : tie.Need-is-letter-requires-2
 is-letter-requires-2 c κs = search rules
@@ -54,7 +54,7 @@ returns-3 : tie.Need-returns-3
 returns-3 c = let a = c.before.before in
     let s = a.before.before in
     c.read-arrival.ensures
-    ∙ sym (step-of-a _ _ _ (parted s.before.before.before) (sym s.is-letter.ensures ∙ a.before.if2.false) (sym a.is-letter2.ensures ∙ c.before.if3.true))
+    ∙ sym (step_of_a _ _ _ (parted s.before.before.before) (sym s.is-letter.ensures ∙ a.before.if2.false) (sym a.is-letter2.ensures ∙ c.before.if3.true))
 
 is-letter-requires-3 : tie.Need-is-letter-requires-3
 is-letter-requires-3 c κs = search rules
@@ -67,13 +67,13 @@ returns-4 c = let r = c.before.before in
     let a = r.before.before in
     let s = a.before.before in
     c.read-release.ensures
-    ∙ sym (step-of-r _ _ _ (parted s.before.before.before) (sym s.is-letter.ensures ∙ a.before.if2.false) (sym a.is-letter2.ensures ∙ r.before.if3.false) (sym r.is-letter3.ensures ∙ c.before.if4.true))
+    ∙ sym (step_of_r _ _ _ (parted s.before.before.before) (sym s.is-letter.ensures ∙ a.before.if2.false) (sym a.is-letter2.ensures ∙ r.before.if3.false) (sym r.is-letter3.ensures ∙ c.before.if4.true))
 
 returns-5 : tie.Need-returns-5
 returns-5 c = let r = c.before in
     let a = r.before.before in
     let s = a.before.before in
-    sym (step-of-none _ _ _ (parted s.before.before.before) (sym s.is-letter.ensures ∙ a.before.if2.false) (sym a.is-letter2.ensures ∙ r.before.if3.false) (sym r.is-letter3.ensures ∙ c.if4.false))
+    sym (step_of_none _ _ _ (parted s.before.before.before) (sym s.is-letter.ensures ∙ a.before.if2.false) (sym a.is-letter2.ensures ∙ r.before.if3.false) (sym r.is-letter3.ensures ∙ c.if4.false))
 
 pub read-step-spec : {M : Type 1} → statement M
 read-step-spec =

@@ -5,7 +5,7 @@ use native.Mathlib.Nat.{le_antisymm}
 use native.Mathlib.Omega.{arith}
 use lib.ListN.{length}
 use Rattle.lines.specs.Lines.{value_of}
-use Rattle.lines.proofs.Numbers.{number-says, value-has-room, value-more}
+use Rattle.lines.proofs.Numbers.{number_says, value_has_room, value_more}
 use borrow.Author.Rules.{rules}
 use Rattle.lines.proofs.value_of.Statement.{statement}
 use Rattle.lines.proofs.value_of.Tie as tie
@@ -22,19 +22,19 @@ loop-holds c = search rules
 
 mul-value : tie.Need-overflow-mul-value invariant-loop decreases-loop
 mul-value c = let at = c.before in
-    omega (arith, at.loop.invariant.1, value-has-room _ (number-says _ at.before.before.requires) at.loop.k c.loop-test.true)
+    omega (arith, at.loop.invariant.1, value_has_room _ (number_says _ at.before.before.requires) at.loop.k c.loop-test.true)
 
 shared-slice-read-digit : tie.Need-shared-slice-read-digit invariant-loop decreases-loop
 shared-slice-read-digit c = search rules
 
 digit-requires : tie.Need-digit-requires invariant-loop decreases-loop
-digit-requires c κs = let at = c.before.before in (number-says _ at.before.before.requires).digits_low at.loop.k c.before.loop-test.true
+digit-requires c κs = let at = c.before.before in (number_says _ at.before.before.requires).digits_low at.loop.k c.before.loop-test.true
 
 add-value : tie.Need-overflow-add-value invariant-loop decreases-loop
 add-value c = let turn = c.before.before in
     let at = turn.before in
-    let n = number-says _ at.before.before.requires in
-    omega (arith, at.loop.invariant.1, value-has-room _ n at.loop.k turn.loop-test.true, n.digits-high at.loop.k turn.loop-test.true, c.digit.ensures)
+    let n = number_says _ at.before.before.requires in
+    omega (arith, at.loop.invariant.1, value_has_room _ n at.loop.k turn.loop-test.true, n.digits_high at.loop.k turn.loop-test.true, c.digit.ensures)
 
 add-k : tie.Need-overflow-add-k invariant-loop decreases-loop
 add-k c = search rules
@@ -44,7 +44,7 @@ loop-less c = search rules
 
 loop-again : tie.Need-loop-preserved invariant-loop decreases-loop
 loop-again c = let at = c.before.before.before in
-    (search rules, ap (λ (v : ℕ). v * 10 + c.digit.result) at.loop.invariant.1 ∙ ap (λ (d : ℕ). value_of at.loop.k at.before.before.args.word.now * 10 + d) c.digit.ensures ∙ value-more _ at.loop.k)
+    (search rules, ap (λ (v : ℕ). v * 10 + c.digit.result) at.loop.invariant.1 ∙ ap (λ (d : ℕ). value_of at.loop.k at.before.before.args.word.now * 10 + d) c.digit.ensures ∙ value_more _ at.loop.k)
 
 returns : tie.Need-returns invariant-loop decreases-loop
 returns c = c.before.loop.invariant.1 ∙ rw (le_antisymm c.before.loop.invariant.0 c.loop-test.false)

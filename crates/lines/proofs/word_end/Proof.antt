@@ -21,7 +21,7 @@ shared-slice-read-if1 : tie.Need-shared-slice-read-if1 invariant-loop decreases-
 shared-slice-read-if1 c = search rules
 
 returns : tie.Need-returns invariant-loop decreases-loop
-returns c = let at = c.before.before.before in record { inside = at.loop.invariant.0; no-space = at.loop.invariant.1; at-space = λ h. c.if1.true }
+returns c = let at = c.before.before.before in record { inside = at.loop.invariant.0; no_space = at.loop.invariant.1; at_space = λ h. c.if1.true }
 
 add-k : tie.Need-overflow-add-k invariant-loop decreases-loop
 add-k c = search rules
@@ -33,7 +33,7 @@ loop-again : tie.Need-loop-preserved invariant-loop decreases-loop
 loop-again c = (omega arith, below_more _ _ c.before.before.before.loop.invariant.1 c.if1.false)
 
 returns-2 : tie.Need-returns-2 invariant-loop decreases-loop
-returns-2 c = record { inside = omega arith; no-space = λ k h. c.before.loop.invariant.1 k (omega arith); at-space = λ h. absurd (omega arith) }
+returns-2 c = record { inside = omega arith; no_space = λ k h. c.before.loop.invariant.1 k (omega arith); at_space = λ h. absurd (omega arith) }
 
 pub word-end-spec : {M : Type 1} → statement M
 word-end-spec =

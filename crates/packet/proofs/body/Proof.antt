@@ -4,7 +4,7 @@ use native.Mathlib.Nat.{le_of_eq}
 use native.Mathlib.Omega.{arith}
 use lib.ListN.{length-drop}
 use lib.Seq.{take_all}
-use Rattle.packet.proofs.Told.{Told, told, told-refused, body-formed, body_refused}
+use Rattle.packet.proofs.Told.{Told, told, told_refused, body_formed, body_refused}
 use borrow.Author.Rules.{rules}
 use Rattle.packet.proofs.body.Statement.{statement}
 use Rattle.packet.proofs.body.Tie as tie
@@ -46,12 +46,12 @@ part-result-end c = search rules
 returns : tie.Need-returns
 returns c = let told-case = c.before in
     let read = told-case.before.before in
-    sym (body_refused _ (told-refused _ _ read.read.ensures told-case.enum_told.given.1))
+    sym (body_refused _ (told_refused _ _ read.read.ensures told-case.enum_told.given.1))
 
 returns-2 : tie.Need-returns-2
 returns-2 c = let t = good c.before.before in
     let packet = c.before.before.before.before.before.before.before.args.packet.now in
-    take_all _ _ (le_of_eq (length-drop _ packet)) ∙ rw t.n (sym (body-formed packet t.well-formed))
+    take_all _ _ (le_of_eq (length-drop _ packet)) ∙ rw t.n (sym (body_formed packet t.is_well_formed))
 
 pub body-spec : {M : Type 1} → statement M
 body-spec =

@@ -1,27 +1,27 @@
 -- `read` meets its contract: refused where a point of the head or of the vectors fails, else what the fields say.
 use mathlib.Core.Path.{◌≡◌, sym, ◌∙◌}
 use native.Mathlib.Omega.{arith}
-use Rattle.packet.specs.Packet.{kind_of, senderOf, past_of, barrierOf, headPoint, vectorsPoint}
-use Rattle.packet.specs.Reading.{message, headerOf}
-use Rattle.packet.proofs.Formed.{Head, head-has, bad-vectors}
-use Rattle.packet.proofs.Told.{head-refused, vectors-refused, read-formed}
+use Rattle.packet.specs.Packet.{kind_of, sender_of, past_of, barrier_of, head_point, vectors_point}
+use Rattle.packet.specs.Reading.{message, header_of}
+use Rattle.packet.proofs.Formed.{Head, head_has, bad_vectors}
+use Rattle.packet.proofs.Told.{head_refused, vectors_refused, read_formed}
 use borrow.Author.Rules.{rules}
 use Rattle.packet.proofs.read.Statement.{statement}
 use Rattle.packet.proofs.read.Tie as tie
 
 -- where points 1 to 6 have passed
-head_passed : (c : tie.Else1) → headPoint c.before.before.before.args.packet.now ≡ 0
+head_passed : (c : tie.Else1) → head_point c.before.before.before.args.packet.now ≡ 0
 head_passed c = sym c.before.head-point.ensures ∙ c.if1.false
 
 head : (c : tie.Else1) → Head c.before.before.before.args.packet.now
-head c = head-has _ (head_passed c)
+head c = head_has _ (head_passed c)
 
 -- the vectors' point, over the packet's fields
 point : (c : tie.After-vectors-point) → let packet = c.before.before.before.before.before.before.before.before.before.args.packet.now in
-    c.vectors-point.result ≡ vectorsPoint (kind_of packet) (senderOf packet) (past_of packet) (barrierOf packet)
+    c.vectors-point.result ≡ vectors_point (kind_of packet) (sender_of packet) (past_of packet) (barrier_of packet)
 point c = let barrier = c.before in
     let past = barrier.before in
-    c.vectors-point.ensures ∙ (λ i. vectorsPoint (past.before.kind-of.ensures i) (senderOf past.before.before.before.before.before.before.before.args.packet.now) (past.fields.ensures i) (barrier.fields2.ensures i))
+    c.vectors-point.ensures ∙ (λ i. vectors_point (past.before.kind-of.ensures i) (sender_of past.before.before.before.before.before.before.before.args.packet.now) (past.fields.ensures i) (barrier.fields2.ensures i))
 
 head-point-requires : tie.Need-head-point-requires
 head-point-requires c κs = search rules
@@ -30,7 +30,7 @@ refuse-requires : tie.Need-refuse-requires
 refuse-requires c κs = search rules
 
 returns : tie.Need-returns
-returns c = c.refuse.ensures ∙ sym (head-refused _ (λ e. c.before.if1.true (c.before.before.head-point.ensures ∙ e)))
+returns c = c.refuse.ensures ∙ sym (head_refused _ (λ e. c.before.if1.true (c.before.before.head-point.ensures ∙ e)))
 
 shared-slice-read-first : tie.Need-shared-slice-read-first
 shared-slice-read-first c = let h = head c.before in omega arith
@@ -71,7 +71,7 @@ refuse-requires-2 c κs = search rules
 returns-2 : tie.Need-returns-2
 returns-2 c = let at = c.before.before in
     c.refuse2.ensures
-    ∙ sym (vectors-refused _ (head_passed at.before.before.before.before.before.before) (λ e. c.before.if2.true (point at ∙ e)))
+    ∙ sym (vectors_refused _ (head_passed at.before.before.before.before.before.before) (λ e. c.before.if2.true (point at ∙ e)))
 
 returns-3 : tie.Need-returns-3
 returns-3 c = let at = c.before in
@@ -79,8 +79,8 @@ returns-3 c = let at = c.before in
     let past = barrier.before in
     let passed = past.before.before.before.before in
     let packet = passed.before.before.before.args.packet.now in
-    (λ i. message (past.before.kind-of.ensures i) (headerOf packet) (past.fields.ensures i) (barrier.fields2.ensures i))
-    ∙ sym (read-formed packet (bad-vectors packet (head_passed passed) ∙ sym (point at) ∙ c.if2.false))
+    (λ i. message (past.before.kind-of.ensures i) (header_of packet) (past.fields.ensures i) (barrier.fields2.ensures i))
+    ∙ sym (read_formed packet (bad_vectors packet (head_passed passed) ∙ sym (point at) ∙ c.if2.false))
 
 pub read_spec : {M : Type 1} → statement M
 read_spec =

@@ -6,33 +6,33 @@ use native.Mathlib.Omega.{arith}
 use borrow.Author.Tests.{not-true, not-false}
 use lib.ListN.{length}
 use Rattle.packet.specs.Writing.{writable}
-use Rattle.packet.proofs.Laid.{at-start, answer-11, answer-14, answer-13, answer-0, refused-write, done-write}
-use Rattle.packet.proofs.Writable.{InRange, in-range, can-be-written}
+use Rattle.packet.proofs.Laid.{at_start_lem, answer_11, answer_14, answer_13, answer_0, refused_write, done_write}
+use Rattle.packet.proofs.Writable.{InRange, is_in_range, can_be_written}
 use borrow.Author.Rules.{rules}
 use Rattle.packet.proofs.write.Statement.{statement}
 use Rattle.packet.proofs.write.Tie as tie
 
-past-long : (c : tie.Start) → length c.args.t3 ≡ 16
-past-long c = search rules
+past_long : (c : tie.Start) → length c.args.t3 ≡ 16
+past_long c = search rules
 
-barrier-long : (c : tie.Start) → length c.args.barrier ≡ 16
-barrier-long c = search rules
+barrier_long : (c : tie.Start) → length c.args.barrier ≡ 16
+barrier_long c = search rules
 
 -- where the message can be written
 good : (c : tie.Else2) → let a = c.before.before.before.before.before.args in writable a.kind a.header a.t3 a.barrier ≡ true
 good c = sym c.before.can_write_lem.ensures ∙ not-false _ c.if2.false
 
 range : (c : tie.Else2) → InRange c.before.before.before.before.before.args.header
-range c = in-range _ (can-be-written _ _ _ _ (good c)).range
+range c = is_in_range _ (can_be_written _ _ _ _ (good c)).range
 
 returns : tie.Need-returns
-returns c = refused-write _ _ _ _ _ _ (answer-11 _ _ _ _ _ _ c.if1.true)
+returns c = refused_write _ _ _ _ _ _ (answer_11 _ _ _ _ _ _ c.if1.true)
 
 can-write-requires : tie.Need-can-write-requires
 can-write-requires c κs = search rules
 
 returns-2 : tie.Need-returns-2
-returns-2 c = refused-write _ _ _ _ _ _ (answer-14 _ _ _ _ _ _ c.before.before.if1.false (sym c.before.can_write_lem.ensures ∙ not-true _ c.if2.true))
+returns-2 c = refused_write _ _ _ _ _ _ (answer_14 _ _ _ _ _ _ c.before.before.if1.false (sym c.before.can_write_lem.ensures ∙ not-true _ c.if2.true))
 
 cast-seats : tie.Need-overflow-cast-seats
 cast-seats c = search rules
@@ -48,11 +48,11 @@ add-length-2 c = search rules
 
 returns-3 : tie.Need-returns-3
 returns-3 c = let passed = c.before.before in
-    refused-write _ _ _ _ _ _ (answer-13 _ _ _ _ _ _ passed.before.before.if1.false (good passed) c.if3.true)
+    refused_write _ _ _ _ _ _ (answer_13 _ _ _ _ _ _ passed.before.before.if1.false (good passed) c.if3.true)
 
 put-packet-requires : tie.Need-put-packet-requires
 put-packet-requires c κs = let passed = c.before.before.before in
-    ((can-be-written _ _ _ _ (good passed)).range, passed.before.before.if1.false, c.before.if3.false)
+    ((can_be_written _ _ _ _ (good passed)).range, passed.before.before.if1.false, c.before.if3.false)
 
 sub_at : tie.Need-overflow-sub-at
 sub_at c = let r = range c.before.before.before.before.before.before.before.before in omega arith
@@ -79,10 +79,10 @@ returns-4 c = let put = c.before.before.before.before in
     let start = passed.before.before.before.before.before in
     let a = start.args in
     let r = range passed in
-    let p : a.header.n ≤ length a.t3 = omega (arith, past-long start) in
-    let b : a.header.n ≤ length a.barrier = omega (arith, barrier-long start) in
-    done-write _ _ _ _ _ _ _ (answer-0 _ _ _ _ _ _ passed.before.before.if1.false (good passed) room.if3.false)
-    (put.put-packet.ensures ∙ at-start a.kind a.header a.t3 a.barrier a.body.now p b a.out.now room.if3.false)
+    let p : a.header.n ≤ length a.t3 = omega (arith, past_long start) in
+    let b : a.header.n ≤ length a.barrier = omega (arith, barrier_long start) in
+    done_write _ _ _ _ _ _ _ (answer_0 _ _ _ _ _ _ passed.before.before.if1.false (good passed) room.if3.false)
+    (put.put-packet.ensures ∙ at_start_lem a.kind a.header a.t3 a.barrier a.body.now p b a.out.now room.if3.false)
 
 pub write_spec : {M : Type 1} → statement M
 write_spec =

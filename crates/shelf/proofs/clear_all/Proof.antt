@@ -1,6 +1,6 @@
 -- `clear_all` meets its contract.
 use mathlib.Core.Path.{◌∙◌}
-use Rattle.shelf.proofs.Zeros.{zeros-stored}
+use Rattle.shelf.proofs.Zeros.{zeros_stored}
 use borrow.Author.Rules.{rules}
 use Rattle.shelf.proofs.clear_all.Statement.{statement}
 use Rattle.shelf.proofs.clear_all.Tie as tie
@@ -14,7 +14,7 @@ same_length c = search rules
 returns : tie.Need-returns
 returns c = let zeros = c.before.before in
     let start = zeros.before.before.before in
-    zeros.put-zeros.ensures ∙ zeros-stored start.args.shelf.now
+    zeros.put-zeros.ensures ∙ zeros_stored start.args.shelf.now
 
 pub clear-all-spec : {M : Type 1} → statement M
 clear-all-spec = tie.close (tie.spec put-zeros-requires same_length returns)

@@ -1,11 +1,11 @@
 -- `has_whole_slots` meets its contract.
 use mathlib.Core.Path.{refl}
-use Rattle.shelf.specs.Shelf.{wholeSlots}
+use Rattle.shelf.specs.Shelf.{whole_slots}
 use Rattle.shelf.proofs.has_whole_slots.Statement.{statement}
 use Rattle.shelf.proofs.has_whole_slots.Tie as tie
 
 returns : tie.Need-returns
-unfolding wholeSlots
+unfolding whole_slots
 returns c = refl
 
 pub has-whole-slots-spec : {M : Type 1} → statement M

@@ -2,9 +2,9 @@
 use Prim.Native.Nat.{◌-◌}
 use lib.Dec.{eqb}
 use lib.ListN.{length, get_or}
-use Rattle.vectors.proofs.Every.{Gathered, gathered_none, gathered-more, gathered-all}
-use Rattle.shelf.specs.Shelf.{allZero}
-use Rattle.vectors.proofs.Tests.{or-is-zero}
+use Rattle.vectors.proofs.Every.{Gathered, gathered_none, gathered_more, gathered_all}
+use Rattle.shelf.specs.Shelf.{all_zero}
+use Rattle.vectors.proofs.Tests.{or_is_zero}
 use borrow.Author.Rules.{rules}
 use Rattle.shelf.proofs.has_zero_bytes.Statement.{statement}
 use Rattle.shelf.proofs.has_zero_bytes.Tie as tie
@@ -30,11 +30,11 @@ loop-less c = search rules
 loop-again : tie.Need-loop-preserved invariant-loop decreases-loop
 loop-again c = let turn = c.before in
     let at = turn.before in
-    gathered-more _ _ _ _ _ at.loop.invariant turn.loop-test.true (or-is-zero at.loop.gathered (get_or at.before.args.s.now at.loop.k 0))
+    gathered_more _ _ _ _ _ at.loop.invariant turn.loop-test.true (or_is_zero at.loop.gathered (get_or at.before.args.s.now at.loop.k 0))
 
 returns : tie.Need-returns invariant-loop decreases-loop
-unfolding allZero
-returns c = gathered-all _ _ _ _ c.before.loop.invariant c.loop-test.false
+unfolding all_zero
+returns c = gathered_all _ _ _ _ c.before.loop.invariant c.loop-test.false
 
 pub has-zero-bytes-spec : {M : Type 1} → statement M
 has-zero-bytes-spec =

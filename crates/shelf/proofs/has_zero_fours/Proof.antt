@@ -5,8 +5,8 @@ use mathlib.Core.Path.{ap, ◌∙◌}
 use lib.Dec.{eqb}
 use lib.ListN.{get_or}
 use Rattle.vectors.specs.Vectors.{all}
-use Rattle.vectors.proofs.Every.{Gathered, gathered_none, gathered-more, gathered-all, all-parts}
-use Rattle.vectors.proofs.Tests.{or-is-zero}
+use Rattle.vectors.proofs.Every.{Gathered, gathered_none, gathered_more, gathered_all, all_parts}
+use Rattle.vectors.proofs.Tests.{or_is_zero}
 use borrow.Author.Rules.{rules}
 use Rattle.shelf.proofs.has_zero_fours.Statement.{statement}
 use Rattle.shelf.proofs.has_zero_fours.Tie as tie
@@ -35,11 +35,11 @@ loop-less c = search rules
 loop-again : tie.Need-loop-preserved invariant-loop decreases-loop
 loop-again c = let turn = c.before in
     let at = turn.before in
-    gathered-more _ _ _ _ _ at.loop.invariant turn.loop-test.true
-    (or-is-zero at.loop.fours c.gathered.result ∙ ap (λ (t : Bool). eqb at.loop.fours 0 && t) c.gathered.ensures)
+    gathered_more _ _ _ _ _ at.loop.invariant turn.loop-test.true
+    (or_is_zero at.loop.fours c.gathered.result ∙ ap (λ (t : Bool). eqb at.loop.fours 0 && t) c.gathered.ensures)
 
 returns : tie.Need-returns invariant-loop decreases-loop
-returns c = gathered-all _ _ _ _ c.before.loop.invariant c.loop-test.false ∙ all-parts 4 _ _
+returns c = gathered_all _ _ _ _ c.before.loop.invariant c.loop-test.false ∙ all_parts 4 _ _
 
 pub has-zero-fours-spec : {M : Type 1} → statement M
 has-zero-fours-spec =

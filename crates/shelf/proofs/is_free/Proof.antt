@@ -1,7 +1,7 @@
 -- `is_free` meets its contract: a slot whose first byte is not 0 is not all zero.
 use mathlib.Core.Path.{sym}
 use native.Mathlib.Omega.{arith}
-use Rattle.shelf.proofs.Zeros.{one-byte-not-zero}
+use Rattle.shelf.proofs.Zeros.{one_byte_not_zero}
 use borrow.Author.Rules.{rules}
 use Rattle.shelf.proofs.is_free.Statement.{statement}
 use Rattle.shelf.proofs.is_free.Tie as tie
@@ -10,7 +10,7 @@ shared-slice-read-if1 : tie.Need-shared-slice-read-if1
 shared-slice-read-if1 c = search rules
 
 returns : tie.Need-returns
-returns c = sym (one-byte-not-zero _ 0 (omega arith) c.if1.true)
+returns c = sym (one_byte_not_zero _ 0 (omega arith) c.if1.true)
 
 is-zero-requires : tie.Need-is-zero-requires
 is-zero-requires c κs = search rules

@@ -2,7 +2,7 @@
 use mathlib.Core.Bool.{◌&&◌}
 use mathlib.Core.Path.{sym, ◌∙◌}
 use native.Mathlib.Omega.{arith}
-use Rattle.shelf.proofs.Zeros.{all-zero-parts}
+use Rattle.shelf.proofs.Zeros.{all_zero_parts}
 use borrow.Author.Rules.{rules}
 use Rattle.shelf.proofs.is_zero.Statement.{statement}
 use Rattle.shelf.proofs.is_zero.Tie as tie
@@ -27,7 +27,7 @@ has-zero-bytes-requires c κs = search rules
 
 returns : tie.Need-returns
 returns c = let fours = c.before.before in
-    (λ i. fours.has-zero-fours.ensures i && c.has-zero-bytes.ensures i) ∙ sym (all-zero-parts _ _ (omega arith))
+    (λ i. fours.has-zero-fours.ensures i && c.has-zero-bytes.ensures i) ∙ sym (all_zero_parts _ _ (omega arith))
 
 pub is-zero-spec : {M : Type 1} → statement M
 is-zero-spec =

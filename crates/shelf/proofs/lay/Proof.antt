@@ -3,7 +3,7 @@ use mathlib.Core.Path.{ap, ◌∙◌}
 use native.Mathlib.Omega.{arith}
 use lib.ListN.{length, length-set}
 use lib.Seq.{length-sets}
-use Rattle.shelf.proofs.Holding.{stored-in-turn}
+use Rattle.shelf.proofs.Holding.{stored_in_turn}
 use borrow.Author.Rules.{rules}
 use Rattle.shelf.proofs.lay.Statement.{statement}
 use Rattle.shelf.proofs.lay.Tie as tie
@@ -42,7 +42,7 @@ returns : tie.Need-returns
 returns c = let zeros = c.before.before in
     let bytes = zeros.before.before.before.before in
     let start = bytes.before.before.before.before in
-    stored-in-turn _ start.requires.1 _ _ start.requires.0 _ _ bytes.put-bytes.ensures zeros.put-zeros.ensures
+    stored_in_turn _ start.requires.1 _ _ start.requires.0 _ _ bytes.put-bytes.ensures zeros.put-zeros.ensures
 
 pub lay-spec : {M : Type 1} → statement M
 lay-spec =

@@ -2,8 +2,8 @@
 use Prim.Native.Nat.{◌-◌}
 use mathlib.Core.Path.{refl}
 use lib.ListN.{replicate, length-replicate}
-use Rattle.vectors.proofs.Numbers.{Put, put-none, put-more, put_all}
-use Rattle.shelf.proofs.Zeros.{one-zero-more}
+use Rattle.vectors.proofs.Numbers.{Put, put_none, put_more, put_all}
+use Rattle.shelf.proofs.Zeros.{one_zero_more}
 use borrow.Author.Rules.{rules}
 use Rattle.shelf.proofs.put_zeros.Statement.{statement}
 use Rattle.shelf.proofs.put_zeros.Tie as tie
@@ -15,7 +15,7 @@ abbrev decreases-loop : tie.decreases-loop
 decreases-loop out₀ start n k₀ out k = n - k
 
 loop-holds : tie.Need-loop-init invariant-loop decreases-loop
-loop-holds c = put-none _ _ _ _ refl
+loop-holds c = put_none _ _ _ _ refl
 
 add-out : tie.Need-overflow-add-out invariant-loop decreases-loop
 add-out c = search rules
@@ -31,7 +31,7 @@ loop-less c = search rules
 
 loop-again : tie.Need-loop-preserved invariant-loop decreases-loop
 loop-again c = let at = c.before in
-    put-more _ _ _ _ _ _ _ _ _ at.loop.invariant c.loop-test.true (one-zero-more at.loop.k) (rw length-replicate) refl
+    put_more _ _ _ _ _ _ _ _ _ at.loop.invariant c.loop-test.true (one_zero_more at.loop.k) (rw length-replicate) refl
 
 same_length : tie.Need-same-length invariant-loop decreases-loop
 same_length c = search rules

@@ -2,7 +2,7 @@
 use Prim.Native.Nat.{◌+◌, ◌*◌, ◌-◌}
 use mathlib.Core.Path.{◌≡◌}
 use native.Mathlib.Omega.{arith}
-use Rattle.shelf.specs.Shelf.{slotSize, slot_at}
+use Rattle.shelf.specs.Shelf.{slot_size, slot_at}
 use borrow.Author.Rules.{rules}
 use Rattle.shelf.proofs.slot.Statement.{statement}
 use Rattle.shelf.proofs.slot.Tie as tie
@@ -24,8 +24,8 @@ part-result-end c = search rules
 
 returns : tie.Need-returns
 unfolding slot_at
-returns c = let place = slotSize * c.before.args.i in
-    let long : place + slotSize - place ≡ slotSize = omega arith in
+returns c = let place = slot_size * c.before.args.i in
+    let long : place + slot_size - place ≡ slot_size = omega arith in
     rw long
 
 pub slot-spec : {M : Type 1} → statement M

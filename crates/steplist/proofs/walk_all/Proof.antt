@@ -7,7 +7,7 @@ use lib.Dec.{ltb}
 use lib.ListN.{length}
 use lib.Seq.{length-take-le}
 use Rattle.vectors.proofs.Every.{and_both}
-use Rattle.steps.specs.Memory.{shelvesSize, packetsSize}
+use Rattle.steps.specs.Memory.{shelves_size, packets_size}
 use Rattle.steps.specs.Course.{Ready}
 use borrow.Author.Rules.{rules}
 use Rattle.steplist.proofs.walk_all.Statement.{statement}
@@ -15,7 +15,7 @@ use Rattle.steplist.proofs.walk_all.Tie as tie
 
 abbrev invariant-loop : tie.invariant-loop
 invariant-loop shelves₀ packets₀ out₀ course₀ pieces₀ more₀ shelves packets out course pieces more =
-    Ready course × (course.number + 4096 * pieces ≤ 4611686018427387904) × (length shelves ≡ shelvesSize) × (length packets ≡ packetsSize) × (length out ≡ 143360)
+    Ready course × (course.number + 4096 * pieces ≤ 4611686018427387904) × (length shelves ≡ shelves_size) × (length packets ≡ packets_size) × (length out ≡ 143360)
 
 abbrev decreases-loop : tie.decreases-loop
 decreases-loop shelves₀ packets₀ out₀ course₀ pieces₀ more₀ shelves packets out course pieces more = pieces

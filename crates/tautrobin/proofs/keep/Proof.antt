@@ -1,7 +1,7 @@
 -- `keep` meets its contract: an image that is left, or rewritten.
 use mathlib.Core.Path.{refl, ap, ◌∙◌}
 use Rattle.tautrobin.specs.Calls.{packed}
-use Rattle.tautrobin.proofs.Keeping.{kept-refused, kept-done}
+use Rattle.tautrobin.proofs.Keeping.{kept_refused, kept_done}
 use borrow.Author.Rules.{rules}
 use Rattle.tautrobin.proofs.keep.Statement.{statement}
 use Rattle.tautrobin.proofs.keep.Tie as tie
@@ -15,7 +15,7 @@ pack-requires c κs = search rules
 returns : tie.Need-returns
 returns c = let refused = c.before in
     let told = refused.before.before.report.ensures in
-    kept-refused _ _ _ _ (rw told at refused.if1.true) (c.pack.ensures ∙ ap packed told) refl
+    kept_refused _ _ _ _ (rw told at refused.if1.true) (c.pack.ensures ∙ ap packed told) refl
 
 encode-requires : tie.Need-encode-requires
 encode-requires c κs = let done = c.before in
@@ -33,7 +33,7 @@ returns-2 : tie.Need-returns-2
 returns-2 c = let encoded = c.before.before.before in
     let done = encoded.before.before in
     let told = done.before.before.report.ensures in
-    kept-done _ _ _ _ (rw told at done.if1.false) (c.pack2.ensures ∙ ap packed told) encoded.encode.ensures
+    kept_done _ _ _ _ (rw told at done.if1.false) (c.pack2.ensures ∙ ap packed told) encoded.encode.ensures
 
 pub keep_spec : {M : Type 1} → statement M
 keep_spec =

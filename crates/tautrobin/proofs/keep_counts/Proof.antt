@@ -1,7 +1,7 @@
 -- `keep_counts` meets its contract: an image that is rewritten, or left.
 use mathlib.Core.Path.{refl, ap, ◌∙◌}
 use Rattle.tautrobin.specs.Calls.{packed}
-use Rattle.tautrobin.proofs.Keeping.{kept-refused, kept-done}
+use Rattle.tautrobin.proofs.Keeping.{kept_refused, kept_done}
 use borrow.Author.Rules.{rules}
 use Rattle.tautrobin.proofs.keep_counts.Statement.{statement}
 use Rattle.tautrobin.proofs.keep_counts.Tie as tie
@@ -22,7 +22,7 @@ returns : tie.Need-returns
 returns c = let written = c.before.before.before in
     let done = written.before.before in
     let told = done.before.before.report.ensures in
-    kept-done _ _ _ _ (rw told at done.if1.true) (c.pack.ensures ∙ ap packed told) written.encode-counts.ensures
+    kept_done _ _ _ _ (rw told at done.if1.true) (c.pack.ensures ∙ ap packed told) written.encode-counts.ensures
 
 pack-requires-2 : tie.Need-pack-requires-2
 pack-requires-2 c κs = search rules
@@ -30,7 +30,7 @@ pack-requires-2 c κs = search rules
 returns-2 : tie.Need-returns-2
 returns-2 c = let refused = c.before in
     let told = refused.before.before.report.ensures in
-    kept-refused _ _ _ _ (rw told at refused.if1.false) (c.pack2.ensures ∙ ap packed told) refl
+    kept_refused _ _ _ _ (rw told at refused.if1.false) (c.pack2.ensures ∙ ap packed told) refl
 
 pub keep-counts-spec : {M : Type 1} → statement M
 keep-counts-spec =

@@ -1,12 +1,12 @@
 -- `tautrobin_arrive` meets its contract: each way out is a law of the call.
 use native.Mathlib.Omega.{arith}
-use Rattle.tautrobin.proofs.ArriveCall.{arrive-wrong-length-is-10, arrive-steps, stepped-arrive-is-numbered, refused-arrive-call, stepped-arrive-call}
+use Rattle.tautrobin.proofs.ArriveCall.{arrive_wrong_length_is_10, arrive_steps, stepped_arrive_is_numbered, refused_arrive_call, stepped_arrive_call}
 use borrow.Author.Rules.{rules}
 use Rattle.tautrobin.proofs.tautrobin_arrive.Statement.{statement}
 use Rattle.tautrobin.proofs.tautrobin_arrive.Tie as tie
 
 returns : tie.Need-returns
-returns c = refused-arrive-call _ _ _ 10 (omega arith) (arrive-wrong-length-is-10 _ _ _ c.if1.true)
+returns c = refused_arrive_call _ _ _ 10 (omega arith) (arrive_wrong_length_is_10 _ _ _ c.if1.true)
 
 decode-requires : tie.Need-decode-requires
 decode-requires c κs = search rules
@@ -17,7 +17,7 @@ arrive-requires c κs = search rules
 keep-requires : tie.Need-keep-requires
 keep-requires c κs = let arrived = c.before.before.before in
     let decode = arrived.before.before in
-    (decode.before.before.if1.false, λ done. stepped-arrive-is-numbered _ _ _ _ _ decode.decode.ensures.1 arrived.arrive.ensures)
+    (decode.before.before.if1.false, λ done. stepped_arrive_is_numbered _ _ _ _ _ decode.decode.ensures.1 arrived.arrive.ensures)
 
 same_length : tie.Need-same-length
 same_length c = search rules
@@ -29,7 +29,7 @@ returns-2 : tie.Need-returns-2
 returns-2 c = let kept = c.before.before in
     let arrived = kept.before.before.before.before in
     let decode = arrived.before.before in
-    stepped-arrive-call _ _ _ _ _ _ _ _ decode.decode.ensures.0 (arrive-steps _ _ _ decode.before.before.if1.false) arrived.arrive.ensures kept.keep.ensures
+    stepped_arrive_call _ _ _ _ _ _ _ _ decode.decode.ensures.0 (arrive_steps _ _ _ decode.before.before.if1.false) arrived.arrive.ensures kept.keep.ensures
 
 pub tautrobin-arrive-spec : {M : Type 1} → statement M
 tautrobin-arrive-spec =

@@ -1,19 +1,19 @@
 -- `wish_of` meets its contract.
 use borrow.Author.Tests.{ne_eqb}
-use Rattle.tautrobin.specs.Calls.{wishOf}
+use Rattle.tautrobin.specs.Calls.{wish_of}
 use Rattle.tautrobin.proofs.wish_of.Statement.{statement}
 use Rattle.tautrobin.proofs.wish_of.Tie as tie
 
 returns : tie.Need-returns
-unfolding wishOf
+unfolding wish_of
 returns c = rw c.match.keys1
 
 returns-2 : tie.Need-returns-2
-unfolding wishOf
+unfolding wish_of
 returns-2 c = rw c.match.keys2
 
 returns-3 : tie.Need-returns-3
-unfolding wishOf
+unfolding wish_of
 returns-3 c = rw (ne_eqb c.before.args.kind 0 c.match.rest.0.1, ne_eqb c.before.args.kind 1 c.match.rest.1)
 
 pub wish-of-spec : {M : Type 1} → statement M

@@ -4,7 +4,7 @@ use lib.Dec.{eqb}
 use lib.ListN.{get_or}
 use mathlib.Core.Path.{refl}
 use Rattle.vectors.specs.Vectors.{same}
-use Rattle.vectors.proofs.Every.{Gathered, gathered_none, gathered-more, gathered-all}
+use Rattle.vectors.proofs.Every.{Gathered, gathered_none, gathered_more, gathered_all}
 use borrow.Author.Rules.{rules}
 use Rattle.vectors.proofs.is_same.Statement.{statement}
 use Rattle.vectors.proofs.is_same.Tie as tie
@@ -37,11 +37,11 @@ loop-less : tie.Need-loop-smaller invariant-loop decreases-loop
 loop-less c = search rules
 
 loop-again : tie.Need-loop-preserved invariant-loop decreases-loop
-loop-again c = let turn = c.before in gathered-more _ _ _ _ _ turn.loop.invariant c.loop-test.true refl
+loop-again c = let turn = c.before in gathered_more _ _ _ _ _ turn.loop.invariant c.loop-test.true refl
 
 returns : tie.Need-returns invariant-loop decreases-loop
 unfolding same
-returns c = gathered-all _ _ _ _ c.before.loop.invariant c.loop-test.false
+returns c = gathered_all _ _ _ _ c.before.loop.invariant c.loop-test.false
 
 pub is-same-spec : {M : Type 1} → statement M
 is-same-spec =

@@ -3,9 +3,9 @@ use Prim.Native.Nat.{◌-◌}
 use lib.Dec.{eqb}
 use lib.ListN.{get_or}
 use mathlib.Core.Path.{◌∙◌, sym}
-use Rattle.vectors.specs.Vectors.{zeroAbove}
-use Rattle.vectors.proofs.Every.{Gathered, gathered_none, gathered-more, gathered-all}
-use Rattle.vectors.proofs.Tests.{or-is-zero, zero-above-none}
+use Rattle.vectors.specs.Vectors.{zero_above}
+use Rattle.vectors.proofs.Every.{Gathered, gathered_none, gathered_more, gathered_all}
+use Rattle.vectors.proofs.Tests.{or_is_zero, zero_above_none}
 use borrow.Author.Rules.{rules}
 use Rattle.vectors.proofs.is_zero.Statement.{statement}
 use Rattle.vectors.proofs.is_zero.Tie as tie
@@ -33,10 +33,10 @@ loop-less c = search rules
 
 loop-again : tie.Need-loop-preserved invariant-loop decreases-loop
 loop-again c = let at = c.before in
-    gathered-more _ _ _ _ _ at.loop.invariant c.loop-test.true (or-is-zero at.loop.gathered (get_or at.before.args.t1 at.loop.k 0))
+    gathered_more _ _ _ _ _ at.loop.invariant c.loop-test.true (or_is_zero at.loop.gathered (get_or at.before.args.t1 at.loop.k 0))
 
 returns : tie.Need-returns invariant-loop decreases-loop
-returns c = gathered-all _ _ _ _ c.before.loop.invariant c.loop-test.false ∙ sym (zero-above-none _)
+returns c = gathered_all _ _ _ _ c.before.loop.invariant c.loop-test.false ∙ sym (zero_above_none _)
 
 pub is-zero-spec : {M : Type 1} → statement M
 is-zero-spec =

@@ -3,7 +3,7 @@ use Prim.Native.Nat.{◌-◌, max}
 use native.Mathlib.Omega.{arith}
 use lib.ListN.{get_or}
 use Rattle.vectors.specs.Vectors.{maxes}
-use Rattle.vectors.proofs.Vector.{Filled, filled_none, filled_more, filled-all}
+use Rattle.vectors.proofs.Vector.{Filled, filled_none, filled_more, filled_all}
 use borrow.Author.Rules.{rules}
 use Rattle.vectors.proofs.max_of.Statement.{statement}
 use Rattle.vectors.proofs.max_of.Tie as tie
@@ -49,7 +49,7 @@ loop-again c = let turn = c.before.before in filled_more _ _ _ _ _ (omega arith)
 
 returns : tie.Need-returns invariant-loop decreases-loop
 unfolding maxes
-returns c = filled-all _ _ _ _ c.before.loop.invariant c.loop-test.false
+returns c = filled_all _ _ _ _ c.before.loop.invariant c.loop-test.false
 
 pub max-of-spec : {M : Type 1} → statement M
 max-of-spec =

@@ -7,8 +7,8 @@ use borrow.Author.Rules.{rules}
 use borrow.Fn.Kinds.{In}
 use borrow.Fn.PlainCycle.{Measures, is, falls, and}
 use Rattle.lines.specs.AnswerLine.{decimal}
-use Rattle.lines.proofs.Decimal.{one-digit, digit-more}
-use Rattle.lines.proofs.Writing.{wrote-one-digit, wrote-last-digit, wrote-long}
+use Rattle.lines.proofs.Decimal.{one_digit, digit_more}
+use Rattle.lines.proofs.Writing.{wrote_one_digit, wrote_last_digit, wrote_long}
 use Rattle.lines.proofs.answer.put_number.Reads as reads
 use Rattle.lines.proofs.answer.put_number.Kinds as kinds
 use Rattle.lines.proofs.answer.+put_number.Lts-put_number as lts
@@ -28,7 +28,7 @@ below t = and 1 kinds.ps (falls 1 kinds.ps ◌<◌ μ t) reads.Pre
 module _ (t : ℕ) where
   -- one digit
   one : (c : lts.Then1 (below t, reads.Post) (at t) reads.Post) → length (decimal c.before.before.args.number) ≡ 1
-  one c = ap length (one-digit c.before.before.args.number (omega arith))
+  one c = ap length (one_digit c.before.before.args.number (omega arith))
 
   cast-out : lts.Need-overflow-cast-out (below t, reads.Post) (at t) reads.Post
   cast-out c = search rules
@@ -46,16 +46,16 @@ module _ (t : ℕ) where
   same_length c = search rules
 
   returns : lts.Need-returns (below t, reads.Post) (at t) reads.Post
-  returns c = wrote-one-digit _ _ _ (omega arith)
+  returns c = wrote_one_digit _ _ _ (omega arith)
 
   put-number-requires : lts.Need-put-number-requires (below t, reads.Post) (at t) reads.Post
   put-number-requires c κs = let start = c.before.before.before in
-      (omega (arith, start.requires.0), omega (arith, start.requires.1, digit-more start.args.number (omega arith) (search rules)))
+      (omega (arith, start.requires.0), omega (arith, start.requires.1, digit_more start.args.number (omega arith) (search rules)))
 
   -- behind the other digits the last one has room
   room : (c : lts.After-put-number (below t, reads.Post) (at t) reads.Post) → c.put-number.result < length c.before.before.before.before.args.out.now
   room c = let start = c.before.before.before.before in
-      omega (arith, start.requires.1, c.put-number.ensures.ends, digit-more start.args.number (omega arith) (search rules))
+      omega (arith, start.requires.1, c.put-number.ensures.ends, digit_more start.args.number (omega arith) (search rules))
 
   cast-out-2 : lts.Need-overflow-cast-out-2 (below t, reads.Post) (at t) reads.Post
   cast-out-2 c = search rules
@@ -64,17 +64,17 @@ module _ (t : ℕ) where
   add-out-2 c = search rules
 
   slice-write-out-2 : lts.Need-slice-write-out-2 (below t, reads.Post) (at t) reads.Post
-  slice-write-out-2 c = let call = c.before.before in omega (arith, room call, wrote-long call.put-number.ensures)
+  slice-write-out-2 c = let call = c.before.before in omega (arith, room call, wrote_long call.put-number.ensures)
 
   add-result-2 : lts.Need-overflow-add-result-2 (below t, reads.Post) (at t) reads.Post
   add-result-2 c = omega (arith, room c.before.before)
 
   returns-2 : lts.Need-returns-2 (below t, reads.Post) (at t) reads.Post
   returns-2 c = let call = c.before.before in
-      wrote-last-digit _ _ _ _ _ (omega arith) (search rules) call.put-number.ensures
+      wrote_last_digit _ _ _ _ _ (omega arith) (search rules) call.put-number.ensures
 
   same-length-2 : lts.Need-same-length-2 (below t, reads.Post) (at t) reads.Post
-  same-length-2 c = wrote-long (returns-2 c)
+  same-length-2 c = wrote_long (returns-2 c)
 
 pub +put-number-spec : {M : Type 1} → statement M
 +put-number-spec =

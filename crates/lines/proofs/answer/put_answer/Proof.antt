@@ -4,10 +4,10 @@ use mathlib.Core.List.{[], ◌∷◌, ◌++◌}
 use native.Mathlib.Omega.{arith}
 use lib.ListN.{length}
 use borrow.Author.Rules.{rules}
-use Rattle.lines.specs.Lines.{lineFeed}
-use Rattle.lines.specs.AnswerLine.{decimal, spaced, answerLine, answerMost, Wrote}
-use Rattle.lines.proofs.AnswerLength.{InRange, to-number-short, to-answer-short, to-sender-short, to-edit-short, answer-line-short}
-use Rattle.lines.proofs.Writing.{wrote-byte, wrote_then, wrote-long, wrote-room}
+use Rattle.lines.specs.Lines.{line_feed}
+use Rattle.lines.specs.AnswerLine.{decimal, spaced, answer_line, answer_most, Wrote}
+use Rattle.lines.proofs.AnswerLength.{InRange, to_number_short, to_answer_short, to_sender_short, to_edit_short, answer_line_short}
+use Rattle.lines.proofs.Writing.{wrote_byte, wrote_then, wrote_long, wrote_room}
 use Rattle.lines.proofs.answer.put_answer.Statement.{statement}
 use Rattle.lines.proofs.answer.put_answer.Tie as tie
 
@@ -40,38 +40,38 @@ module _ (c : tie.After-put-spaced3) where
   to-edit : Wrote start4.args.out.now start4.args.at (decimal start4.args.number ++ spaced start4.args.answer ++ spaced start4.args.sender ++ spaced start4.args.edit) c.put-spaced3.result c.put-spaced3.new.0
   to-edit = wrote_then (to-sender c.before.before.before.before) c.put-spaced3.ensures
 
-in-range : (c : tie.Start) → InRange c.args.number c.args.answer c.args.sender c.args.edit
-in-range c = record { number_fits = search rules; answer-fits = search rules; sender-fits = search rules; edit-fits = search rules }
+is_in_range : (c : tie.Start) → InRange c.args.number c.args.answer c.args.sender c.args.edit
+is_in_range c = record { number_fits = search rules; answer_fits = search rules; sender_fits = search rules; edit_fits = search rules }
 
 put-number-requires : tie.Need-put-number-requires
-put-number-requires c κs = let at = c.before.before in omega (arith, at.requires, to-number-short (in-range at))
+put-number-requires c κs = let at = c.before.before in omega (arith, at.requires, to_number_short (is_in_range at))
 
 put-spaced-requires : tie.Need-put-spaced-requires
-put-spaced-requires c κs = let at = c.before.before.before in wrote-room (spaced (start at).args.answer) answerMost (to_number at) (to-answer-short (in-range (start at))) (start at).requires
+put-spaced-requires c κs = let at = c.before.before.before in wrote_room (spaced (start at).args.answer) answer_most (to_number at) (to_answer_short (is_in_range (start at))) (start at).requires
 
 put-spaced-requires-2 : tie.Need-put-spaced-requires-2
-put-spaced-requires-2 c κs = let at = c.before.before.before in wrote-room (spaced (start2 at).args.sender) answerMost (to-answer at) (to-sender-short (in-range (start2 at))) (start2 at).requires
+put-spaced-requires-2 c κs = let at = c.before.before.before in wrote_room (spaced (start2 at).args.sender) answer_most (to-answer at) (to_sender_short (is_in_range (start2 at))) (start2 at).requires
 
 put-spaced-requires-3 : tie.Need-put-spaced-requires-3
-put-spaced-requires-3 c κs = let at = c.before.before.before in wrote-room (spaced (start3 at).args.edit) answerMost (to-sender at) (to-edit-short (in-range (start3 at))) (start3 at).requires
+put-spaced-requires-3 c κs = let at = c.before.before.before in wrote_room (spaced (start3 at).args.edit) answer_most (to-sender at) (to_edit_short (is_in_range (start3 at))) (start3 at).requires
 
 -- the line feed has room
 room : (c : tie.After-put-spaced3) → c.put-spaced3.result + 1 ≤ length c.put-spaced3.new.0
-unfolding answerLine
-room c = wrote-room (lineFeed ∷ []) answerMost (to-edit c) (answer-line-short (in-range (start4 c))) (start4 c).requires
+unfolding answer_line
+room c = wrote_room (line_feed ∷ []) answer_most (to-edit c) (answer_line_short (is_in_range (start4 c))) (start4 c).requires
 
 slice-write-out : tie.Need-slice-write-out
 slice-write-out c = omega (arith, room c.before.before)
 
 add-result : tie.Need-overflow-add-result
-add-result c = let at = c.before.before in omega (arith, room at, wrote-long (to-edit at), (start4 at).well-formed.0.0)
+add-result c = let at = c.before.before in omega (arith, room at, wrote_long (to-edit at), (start4 at).is_well_formed.0.0)
 
 returns : tie.Need-returns
-unfolding answerLine
-returns c = wrote_then (to-edit c.before.before) (wrote-byte _ _ _)
+unfolding answer_line
+returns c = wrote_then (to-edit c.before.before) (wrote_byte _ _ _)
 
 same_length : tie.Need-same-length
-same_length c = wrote-long (returns c)
+same_length c = wrote_long (returns c)
 
 pub put-answer-spec : {M : Type 1} → statement M
 put-answer-spec =

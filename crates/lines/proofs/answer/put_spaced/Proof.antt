@@ -2,7 +2,7 @@
 use native.Mathlib.Omega.{arith}
 use lib.ListN.{length-set}
 use borrow.Author.Rules.{rules}
-use Rattle.lines.proofs.Writing.{wrote-byte, wrote_then, wrote-long}
+use Rattle.lines.proofs.Writing.{wrote_byte, wrote_then, wrote_long}
 use Rattle.lines.proofs.answer.put_spaced.Statement.{statement}
 use Rattle.lines.proofs.answer.put_spaced.Tie as tie
 
@@ -16,10 +16,10 @@ put-number-requires : tie.Need-put-number-requires
 put-number-requires c κs = simp length-set (omega (arith, c.before.before.requires))
 
 returns : tie.Need-returns
-returns c = wrote_then (wrote-byte _ _ _) c.before.before.put-number.ensures
+returns c = wrote_then (wrote_byte _ _ _) c.before.before.put-number.ensures
 
 same_length : tie.Need-same-length
-same_length c = wrote-long (returns c)
+same_length c = wrote_long (returns c)
 
 pub put-spaced-spec : {M : Type 1} → statement M
 put-spaced-spec =

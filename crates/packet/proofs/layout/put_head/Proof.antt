@@ -1,13 +1,13 @@
 -- `put_head` meets its contract.
 use native.Mathlib.Omega.{arith}
 use lib.ListN.{length-set}
-use Rattle.packet.proofs.Writable.{InRange, in-range}
+use Rattle.packet.proofs.Writable.{InRange, is_in_range}
 use borrow.Author.Rules.{rules}
 use Rattle.packet.proofs.layout.put_head.Statement.{statement}
 use Rattle.packet.proofs.layout.put_head.Tie as tie
 
 range : (c : tie.After-bit-of) → InRange c.before.before.args.header
-range c = in-range _ c.before.before.requires.0
+range c = is_in_range _ c.before.before.requires.0
 
 bit-of-requires : tie.Need-bit-of-requires
 bit-of-requires c κs = search rules

@@ -3,20 +3,20 @@ use Prim.Native.Nat.{◌≤◌}
 use mathlib.Core.Path.{◌≡◌, refl}
 use native.Mathlib.Omega.{arith}
 use lib.ListN.{length}
-use Rattle.packet.proofs.Laid.{four-parts}
-use Rattle.packet.proofs.Writable.{InRange, in-range}
+use Rattle.packet.proofs.Laid.{four_parts}
+use Rattle.packet.proofs.Writable.{InRange, is_in_range}
 use borrow.Author.Rules.{rules}
 use Rattle.packet.proofs.layout.put_packet.Statement.{statement}
 use Rattle.packet.proofs.layout.put_packet.Tie as tie
 
 range : (c : tie.Start) → InRange c.args.header
-range c = in-range _ c.requires.0
+range c = is_in_range _ c.requires.0
 
-past-long : (c : tie.Start) → length c.args.past ≡ 16
-past-long c = search rules
+past_long : (c : tie.Start) → length c.args.past ≡ 16
+past_long c = search rules
 
-barrier-long : (c : tie.Start) → length c.args.barrier ≡ 16
-barrier-long c = search rules
+barrier_long : (c : tie.Start) → length c.args.barrier ≡ 16
+barrier_long c = search rules
 
 cast-seats : tie.Need-overflow-cast-seats
 cast-seats c = search rules
@@ -56,9 +56,9 @@ returns c = let bytes = c.before.before in
     let start = head.before.before.before.before.before in
     let a = start.args in
     let r = range start in
-    let p : a.header.n ≤ length a.past = omega (arith, past-long start) in
-    let b : a.header.n ≤ length a.barrier = omega (arith, barrier-long start) in
-    four-parts a.kind a.header a.past a.barrier a.body.now p b _ _ _ _ _ _ refl head.put-head.ensures pasts.put-fields.ensures barriers.put-fields2.ensures bytes.put-bytes.ensures
+    let p : a.header.n ≤ length a.past = omega (arith, past_long start) in
+    let b : a.header.n ≤ length a.barrier = omega (arith, barrier_long start) in
+    four_parts a.kind a.header a.past a.barrier a.body.now p b _ _ _ _ _ _ refl head.put-head.ensures pasts.put-fields.ensures barriers.put-fields2.ensures bytes.put-bytes.ensures
 
 pub put-packet-spec : {M : Type 1} → statement M
 put-packet-spec =

@@ -4,24 +4,24 @@ use mathlib.Core.Path.{◌≡◌, sym, ◌∙◌}
 use native.Mathlib.Omega.{arith}
 use borrow.Author.Tests.{not-true, not-false, eq-eqb, ne_eqb}
 use Rattle.packet.specs.Writing.{in_range, writable}
-use Rattle.packet.proofs.Writable.{in-range}
+use Rattle.packet.proofs.Writable.{is_in_range}
 use borrow.Author.Rules.{rules}
 use Rattle.packet.proofs.points.can_write.Statement.{statement}
 use Rattle.packet.proofs.points.can_write.Tie as tie
 
 -- where the header is in range
 in-range-holds : (c : tie.Else1) → in_range c.before.before.args.header ≡ true
-in-range-holds c = sym c.before.in-range.ensures ∙ not-false _ c.if1.false
+in-range-holds c = sym c.before.is_in_range.ensures ∙ not-false _ c.if1.false
 
 in-range-requires : tie.Need-in-range-requires
 in-range-requires c κs = search rules
 
 returns : tie.Need-returns
 unfolding writable
-returns c = simp (sym c.before.in-range.ensures ∙ not-true _ c.if1.true)
+returns c = simp (sym c.before.is_in_range.ensures ∙ not-true _ c.if1.true)
 
 vectors-point-requires : tie.Need-vectors-point-requires
-vectors-point-requires c κs = let r = in-range _ (in-range-holds c.before) in omega arith
+vectors-point-requires c κs = let r = is_in_range _ (in-range-holds c.before) in omega arith
 
 returns-2 : tie.Need-returns-2
 unfolding writable
@@ -32,10 +32,10 @@ cast-seats : tie.Need-overflow-cast-seats
 cast-seats c = search rules
 
 is-zero-above-requires : tie.Need-is-zero-above-requires
-is-zero-above-requires c κs = let r = in-range _ (in-range-holds c.before.before.before.before) in omega arith
+is-zero-above-requires c κs = let r = is_in_range _ (in-range-holds c.before.before.before.before) in omega arith
 
 is-zero-above-requires-2 : tie.Need-is-zero-above-requires-2
-is-zero-above-requires-2 c κs = let r = in-range _ (in-range-holds c.before.before.before.before.before) in omega arith
+is-zero-above-requires-2 c κs = let r = is_in_range _ (in-range-holds c.before.before.before.before.before) in omega arith
 
 returns-3 : tie.Need-returns-3
 unfolding writable

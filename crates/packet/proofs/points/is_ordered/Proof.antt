@@ -1,5 +1,5 @@
 -- `is_ordered` meets its contract.
-use Rattle.packet.specs.Packet.{pointSeven}
+use Rattle.packet.specs.Packet.{point_seven}
 use borrow.Author.Rules.{rules}
 use Rattle.packet.proofs.points.is_ordered.Statement.{statement}
 use Rattle.packet.proofs.points.is_ordered.Tie as tie
@@ -26,7 +26,7 @@ array-read-result-2 : tie.Need-array-read-result-2
 array-read-result-2 c = search rules
 
 returns : tie.Need-returns
-unfolding pointSeven
+unfolding point_seven
 returns c = rw c.is_Within.ensures
 
 pub is-ordered-spec : {M : Type 1} → statement M

@@ -1,8 +1,8 @@
 -- `arrive` meets its contract.
 use mathlib.Core.Path.{sym, ◌∙◌}
 use borrow.Author.Tests.{not-true, not-false}
-use Rattle.packet.proofs.Told.{told-refused}
-use Rattle.seat.proofs.Hearing.{refused-10, refused-14, heard}
+use Rattle.packet.proofs.Told.{told_refused}
+use Rattle.seat.proofs.Hearing.{refused_10, refused_14, heard}
 use borrow.Author.Rules.{rules}
 use Rattle.seat.proofs.Seat.arrive.Statement.{statement}
 use Rattle.seat.proofs.Seat.arrive.Tie as tie
@@ -18,7 +18,7 @@ same_length c = search rules
 
 returns : tie.Need-returns
 returns c = let look = c.before.before.before in
-    refused-10 _ _ _ _ (sym look.look-over.ensures.sound-is ∙ not-true _ c.before.if1.true) c.refuse.ensures.0 c.refuse.ensures.1
+    refused_10 _ _ _ _ (sym look.look-over.ensures.sound_is ∙ not-true _ c.before.if1.true) c.refuse.ensures.0 c.refuse.ensures.1
 
 read-requires : tie.Need-read-requires
 read-requires c κs = search rules
@@ -45,7 +45,7 @@ returns-2 : tie.Need-returns-2
 returns-2 c = let told = c.before in
     let read = told.before.before.before.before in
     let passed = read.before in
-    refused-14 _ _ _ _ (sym passed.before.before.look-over.ensures.sound-is ∙ not-false _ passed.if1.false) (told-refused _ read.read.result read.read.ensures told.enum_told.given.1)
+    refused_14 _ _ _ _ (sym passed.before.before.look-over.ensures.sound_is ∙ not-false _ passed.if1.false) (told_refused _ read.read.result read.read.ensures told.enum_told.given.1)
     c.refuse2.ensures.0 c.refuse2.ensures.1
 
 same-length-3 : tie.Need-same-length-3

@@ -3,14 +3,14 @@ use mathlib.Core.Path.{◌≡◌, sym, ◌∙◌}
 use mathlib.Core.Bool.{true}
 use borrow.Author.Tests.{not-true, not-false}
 use Rattle.packet.specs.Writing.{in_range}
-use Rattle.seat.proofs.OpenAnswers.{no-such-seat-answers-20, broken-shelf-answers-10, opening-answers-0, refused-open, done-open}
+use Rattle.seat.proofs.OpenAnswers.{no_such_seat_answers_20, broken_shelf_answers_10, opening_answers_0, refused_open, done_open}
 use borrow.Author.Rules.{rules}
 use Rattle.seat.proofs.Seat.open.Statement.{statement}
 use Rattle.seat.proofs.Seat.open.Tie as tie
 
 -- where n and the own number are in range
 range : (c : tie.Else1) → let a = c.before.before.before.args in in_range (record { n = a.n; sender = a.own }) ≡ true
-range c = sym c.before.in-range.ensures ∙ not-false _ c.if1.false
+range c = sym c.before.is_in_range.ensures ∙ not-false _ c.if1.false
 
 in-range-requires : tie.Need-in-range-requires
 in-range-requires c κs = search rules
@@ -23,7 +23,7 @@ refuse-requires c κs = search rules
 
 returns : tie.Need-returns
 returns c = let out = c.before.before in
-    refused-open _ _ _ _ _ _ (no-such-seat-answers-20 _ _ _ (sym out.before.in-range.ensures ∙ not-true _ out.if1.true)) c.before.no-seat.ensures c.refuse.ensures
+    refused_open _ _ _ _ _ _ (no_such_seat_answers_20 _ _ _ (sym out.before.is_in_range.ensures ∙ not-true _ out.if1.true)) c.before.no-seat.ensures c.refuse.ensures
 
 has-whole-slots-requires : tie.Need-has-whole-slots-requires
 has-whole-slots-requires c κs = search rules
@@ -40,7 +40,7 @@ same_length c = search rules
 returns-2 : tie.Need-returns-2
 returns-2 c = let out = c.before.before in
     let looked = out.before in
-    refused-open _ _ _ _ _ _ (broken-shelf-answers-10 _ _ _ (range looked.before.before) (sym looked.has-whole-slots.ensures ∙ not-true _ out.if2.true)) c.before.no-seat2.ensures
+    refused_open _ _ _ _ _ _ (broken_shelf_answers_10 _ _ _ (range looked.before.before) (sym looked.has-whole-slots.ensures ∙ not-true _ out.if2.true)) c.before.no-seat2.ensures
     c.refuse2.ensures
 
 clear-all-requires : tie.Need-clear-all-requires
@@ -56,7 +56,7 @@ returns-3 : tie.Need-returns-3
 returns-3 c = let cleared = c.before.before.before in
     let passed = cleared.before.before in
     let looked = passed.before in
-    done-open _ _ _ _ _ (opening-answers-0 _ _ _ (range looked.before.before) (sym looked.has-whole-slots.ensures ∙ not-false _ passed.if2.false)) c.counting-from-zero.ensures
+    done_open _ _ _ _ _ (opening_answers_0 _ _ _ (range looked.before.before) (sym looked.has-whole-slots.ensures ∙ not-false _ passed.if2.false)) c.counting-from-zero.ensures
     cleared.clear-all.ensures
 
 pub open_spec : {M : Type 1} → statement M

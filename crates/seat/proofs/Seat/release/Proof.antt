@@ -2,8 +2,8 @@
 use mathlib.Core.Path.{refl, sym, ◌∙◌}
 use borrow.Author.Tests.{not-true, not-false}
 use lib.Arith.{lt_of_le-ne}
-use Rattle.seat.proofs.Chosen.{chosen-is-at-most-slots}
-use Rattle.seat.proofs.ReleaseAnswers.{not-sound-answers-10, none-ready-answers-2, refused-release, idle-release}
+use Rattle.seat.proofs.Chosen.{chosen_is_at_most_slots}
+use Rattle.seat.proofs.ReleaseAnswers.{not_sound_answers_10, none_ready_answers_2, refused_release, idle_release}
 use borrow.Author.Rules.{rules}
 use Rattle.seat.proofs.Seat.release.Statement.{statement}
 use Rattle.seat.proofs.Seat.release.Tie as tie
@@ -19,7 +19,7 @@ same_length c = search rules
 
 returns : tie.Need-returns
 returns c = let look = c.before.before.before in
-    refused-release _ _ _ _ _ (not-sound-answers-10 _ _ _ (sym look.look-over.ensures.sound-is ∙ not-true _ c.before.if1.true)) c.refuse.ensures.0 c.refuse.ensures.1
+    refused_release _ _ _ _ _ (not_sound_answers_10 _ _ _ (sym look.look-over.ensures.sound_is ∙ not-true _ c.before.if1.true)) c.refuse.ensures.0 c.refuse.ensures.1
 
 same-length-2 : tie.Need-same-length-2
 same-length-2 c = search rules
@@ -28,18 +28,18 @@ returns-2 : tie.Need-returns-2
 returns-2 c = let passed = c.before in
     let look = passed.before.before in
     let sound = not-false _ passed.if1.false in
-    idle-release _ _ _ (none-ready-answers-2 _ _ _ (sym look.look-over.ensures.sound-is ∙ sound) (sym ((look.look-over.ensures.surveyed sound).first-is refl sound) ∙ c.if2.true))
+    idle_release _ _ _ (none_ready_answers_2 _ _ _ (sym look.look-over.ensures.sound_is ∙ sound) (sym ((look.look-over.ensures.surveyed sound).first_is refl sound) ∙ c.if2.true))
 
 take-requires : tie.Need-take-requires
 take-requires c κs = let some = c.before.before in
     let passed = some.before in
     let look = passed.before.before in
     let sound = not-false _ passed.if1.false in
-    let first-is = (look.look-over.ensures.surveyed sound).first-is refl sound in
+    let first_is = (look.look-over.ensures.surveyed sound).first_is refl sound in
     record {
-      sound = sym look.look-over.ensures.sound-is ∙ sound;
-      there = lt_of_le-ne (rw first-is (chosen-is-at-most-slots _ _)) some.if2.false;
-      chosen_is = first-is;
+      sound = sym look.look-over.ensures.sound_is ∙ sound;
+      there = lt_of_le-ne (rw first_is (chosen_is_at_most_slots _ _)) some.if2.false;
+      chosen_is = first_is;
     }
 
 same-length-3 : tie.Need-same-length-3

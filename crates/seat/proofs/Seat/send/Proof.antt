@@ -10,11 +10,11 @@ use mir.Syntax.{w16, w64}
 use Rattle.answers.specs.declared.Answer.TheVariants.{Done}
 use Rattle.packet.specs.Writing.{in_range}
 use Rattle.packet.specs.declared.Header.{Header}
-use Rattle.seat.specs.State.{ownCount, soundState, SoundState, Held}
-use Rattle.seat.specs.Sending.{sentSeat}
-use Rattle.seat.proofs.Sound.{sound-says, sound-is-in-range}
-use Rattle.seat.proofs.SentPacket.{sent-edit-is, sent-packet-is-put}
-use Rattle.seat.proofs.SendAnswers.{not-sound-answers-10, long-body-answers-11, full-count-answers-12, short-output-answers-13, sending-answers-0, refused-send, done-send}
+use Rattle.seat.specs.State.{own_count, sound_state, SoundState, Held}
+use Rattle.seat.specs.Sending.{sent_seat}
+use Rattle.seat.proofs.Sound.{sound_says, sound_is_in_range}
+use Rattle.seat.proofs.SentPacket.{sent_edit_is, sent_packet_is_put}
+use Rattle.seat.proofs.SendAnswers.{not_sound_answers_10, long_body_answers_11, full_count_answers_12, short_output_answers_13, sending_answers_0, refused_send, done_send}
 use borrow.Author.Rules.{rules}
 use Rattle.seat.proofs.Seat.send.Statement.{statement}
 use Rattle.seat.proofs.Seat.send.Tie as tie
@@ -22,28 +22,28 @@ use Rattle.seat.proofs.Seat.send.Tie as tie
 held : (c : tie.Start) → Held c.args.self
 held c =
     record {
-      past-long = search rules;
-      barrier-long = search rules;
+      past_long = search rules;
+      barrier_long = search rules;
       run_long = search rules;
-      ahead-long = search rules;
+      ahead_long = search rules;
       past_fits = λ k. let f : Fits w16 (get_or c.args.self.past k 0) = search rules in omega arith;
-      barrier-fits = λ k. let f : Fits w16 (get_or c.args.self.barrier k 0) = search rules in omega arith;
+      barrier_fits = λ k. let f : Fits w16 (get_or c.args.self.barrier k 0) = search rules in omega arith;
       run_fits = λ k. let f : Fits w16 (get_or c.args.self.run k 0) = search rules in omega arith;
-      ahead-fits = λ k. let f : Fits w64 (get_or c.args.self.ahead k 0) = search rules in omega arith;
+      ahead_fits = λ k. let f : Fits w64 (get_or c.args.self.ahead k 0) = search rules in omega arith;
     }
 
 -- where the state is sound
-sound : (c : tie.Else1) → soundState c.before.before.before.before.args.self ≡ true
+sound : (c : tie.Else1) → sound_state c.before.before.before.before.args.self ≡ true
 sound c = sym c.before.is-sound.ensures ∙ not-false _ c.if1.false
 
 facts : (c : tie.Else1) → SoundState c.before.before.before.before.args.self
-facts c = sound-says _ (sound c)
+facts c = sound_says _ (sound c)
 
 -- where the count is not full
-not_full : (c : tie.Else3) → ownCount c.before.before.before.before.before.before.before.args.self ≡ 65535 → ⊥
+not_full : (c : tie.Else3) → own_count c.before.before.before.before.before.before.before.args.self ≡ 65535 → ⊥
 not_full c e = c.if3.false (c.before.own-count.ensures ∙ e)
 
-below : (c : tie.Else3) → ownCount c.before.before.before.before.before.before.before.args.self < 65535
+below : (c : tie.Else3) → own_count c.before.before.before.before.before.before.before.args.self < 65535
 below c =
     let start = c.before.before.before.before.before.before.before in
     let h = held start in
@@ -56,16 +56,16 @@ refuse-requires : tie.Need-refuse-requires
 refuse-requires c κs = search rules
 
 returns : tie.Need-returns
-returns c = let out = c.before in refused-send _ _ _ _ _ _ (not-sound-answers-10 _ _ _ (sym out.before.is-sound.ensures ∙ not-true _ out.if1.true)) c.refuse.ensures
+returns c = let out = c.before in refused_send _ _ _ _ _ _ (not_sound_answers_10 _ _ _ (sym out.before.is-sound.ensures ∙ not-true _ out.if1.true)) c.refuse.ensures
 
 refuse-requires-2 : tie.Need-refuse-requires-2
 refuse-requires-2 c κs = search rules
 
 returns-2 : tie.Need-returns-2
-returns-2 c = let out = c.before in refused-send _ _ _ _ _ _ (long-body-answers-11 _ _ _ (sound out.before) out.if2.true) c.refuse2.ensures
+returns-2 c = let out = c.before in refused_send _ _ _ _ _ _ (long_body_answers_11 _ _ _ (sound out.before) out.if2.true) c.refuse2.ensures
 
 own-count-requires : tie.Need-own-count-requires
-own-count-requires c κs = let s = facts c.before in (s.own-low, omega arith)
+own-count-requires c κs = let s = facts c.before in (s.own_low, omega arith)
 
 refuse-requires-3 : tie.Need-refuse-requires-3
 refuse-requires-3 c κs = search rules
@@ -74,7 +74,7 @@ returns-3 : tie.Need-returns-3
 returns-3 c = let out = c.before in
     let counted = out.before in
     let short = counted.before in
-    refused-send _ _ _ _ _ _ (full-count-answers-12 _ _ _ (sound short.before) short.if2.false (sym counted.own-count.ensures ∙ out.if3.true)) c.refuse3.ensures
+    refused_send _ _ _ _ _ _ (full_count_answers_12 _ _ _ (sound short.before) short.if2.false (sym counted.own-count.ensures ∙ out.if3.true)) c.refuse3.ensures
 
 cast-seats : tie.Need-overflow-cast-seats
 cast-seats c = search rules
@@ -95,7 +95,7 @@ returns-4 : tie.Need-returns-4
 returns-4 c = let out = c.before in
     let passed = out.before.before in
     let short = passed.before.before in
-    refused-send _ _ _ _ _ _ (short-output-answers-13 _ _ _ (sound short.before) short.if2.false (not_full passed) out.if4.true) c.refuse4.ensures
+    refused_send _ _ _ _ _ _ (short_output_answers_13 _ _ _ (sound short.before) short.if2.false (not_full passed) out.if4.true) c.refuse4.ensures
 
 kind-of-requires : tie.Need-kind-of-requires
 kind-of-requires c κs = search rules
@@ -103,7 +103,7 @@ kind-of-requires c κs = search rules
 past-sent-requires : tie.Need-past-sent-requires
 past-sent-requires c κs = let passed = c.before.before.before in
     let s = facts passed.before.before.before in
-    (s.own-low, omega arith, below passed)
+    (s.own_low, omega arith, below passed)
 
 header-of-requires : tie.Need-header-of-requires
 header-of-requires c κs = search rules
@@ -115,7 +115,7 @@ put-packet-requires : tie.Need-put-packet-requires
 put-packet-requires c κs = let header = c.before.before.header_of.ensures in
     let roomy = c.before.before.before.before.before in
     let short = roomy.before.before.before.before in
-    (ap in_range header ∙ sound-is-in-range _ (sound short.before), short.if2.false, omega (arith, ap (λ (h : Header). h.n) header, roomy.if4.false))
+    (ap in_range header ∙ sound_is_in_range _ (sound short.before), short.if2.false, omega (arith, ap (λ (h : Header). h.n) header, roomy.if4.false))
 
 add-number : tie.Need-overflow-add-number
 add-number c = search rules
@@ -142,11 +142,11 @@ returns-5 c = let put = c.before.before.before.before in
     let start = short.before.before.before.before.before in
     let a = start.args in
     let h = held start in
-    done-send a.self a.body.now a.out.now a.wish _ _ _
-    (sending-answers-0 _ _ _ ok short.if2.false (not_full passed) roomy.if4.false ∙ ap Done (sent-edit-is a.self ok h a.body.now _ passed.before.own-count.ensures))
-    (c.after-sending.ensures ∙ ap (sentSeat a.self) kind.kind-of.ensures)
-    (sent-packet-is-put a.self ok h (below passed) _ _ _ _ _ a.body.now a.out.now _ kind.kind-of.ensures header.header_of.ensures past.past-sent.ensures
-    barrier.barrier-sent.ensures put.put-packet.ensures roomy.if4.false)
+    done_send a.self a.body.now a.out.now a.wish _ _ _
+    (sending_answers_0 _ _ _ ok short.if2.false (not_full passed) roomy.if4.false ∙ ap Done (sent_edit_is a.self ok h a.body.now _ passed.before.own-count.ensures))
+    (c.after_sending.ensures ∙ ap (sent_seat a.self) kind.kind-of.ensures)
+    (sent_packet_is_put a.self ok h (below passed) _ _ _ _ _ a.body.now a.out.now _ kind.kind-of.ensures header.header_of.ensures past.past_sent_is.ensures
+    barrier.barrier_sent_is.ensures put.put-packet.ensures roomy.if4.false)
 
 pub send-spec : {M : Type 1} → statement M
 send-spec =

@@ -6,14 +6,14 @@ use mir.Val.{Fits}
 use mir.Syntax.{w16}
 use lib.ListN.{get_or}
 use Rattle.answers.specs.declared.Edit.{Edit}
-use Rattle.answers.proofs.InOrder.{done-is-no-refusal}
+use Rattle.answers.proofs.InOrder.{done_is_no_refusal}
 use Rattle.window.specs.Window.{handed}
 use Rattle.window.specs.declared.Window.{Window}
 use Rattle.shelf.specs.Shelf.{slot_of, laid}
-use Rattle.seat.specs.HandingOver.{handOver}
-use Rattle.seat.specs.Arriving.{arriveAnswer}
+use Rattle.seat.specs.HandingOver.{hand_over}
+use Rattle.seat.specs.Arriving.{arrive_answer}
 use Rattle.seat.proofs.WellRead.{Sizes}
-use Rattle.seat.proofs.Hearing.{heard-sizes, heard-answer, heard-none-above, heard-in-window, heard-free, arrived-done, arrived-shelved, arrived-refused, arrived-opened, arrived-idle}
+use Rattle.seat.proofs.Hearing.{heard_sizes, heard_answer, heard_none_above, heard_in_window, heard_free, arrived_done, arrived_shelved, arrived_refused, arrived_opened, arrived_idle}
 use borrow.Author.Rules.{rules}
 use Rattle.seat.proofs.arrival.settle.Statement.{statement}
 use Rattle.seat.proofs.arrival.settle.Tie as tie
@@ -22,21 +22,21 @@ count_fits : (c : tie.Start) → Fits w16 (get_or c.args.seat.past (c.args.headi
 count_fits c = search rules
 
 sizes : (c : tie.Start) → Sizes c.args.heading c.args.packet.now
-sizes c = heard-sizes _ _ _ _ _ _ _ c.requires
+sizes c = heard_sizes _ _ _ _ _ _ _ c.requires
 
-answer-is : (c : tie.After-judged) → let a = c.before.before.before.before.before.before.before.before.before.before.before.before.before.args in
-    c.judged.result ≡ arriveAnswer a.seat a.shelf.now a.packet.now
-answer-is c = let met = c.before.before in
+answer_is : (c : tie.After-judged) → let a = c.before.before.before.before.before.before.before.before.before.before.before.before.before.args in
+    c.judged.result ≡ arrive_answer a.seat a.shelf.now a.packet.now
+answer_is c = let met = c.before.before in
     let edit = met.before.before.before.before.before.before.before.before in
     let start = edit.before.before.before in
     let a = start.args in
-    heard-answer a.seat a.shelf.now a.stock a.packet.now a.heading a.past a.barrier start.requires _ _ _ edit.edit-in.ensures (met.holds.ensures ∙ ap (λ (w : Window). handed w edit.edit-in.result.number.0) met.before.window-with.ensures) c.judged.ensures
+    heard_answer a.seat a.shelf.now a.stock a.packet.now a.heading a.past a.barrier start.requires _ _ _ edit.edit-in.ensures (met.holds.ensures ∙ ap (λ (w : Window). handed w edit.edit-in.result.number.0) met.before.window-with.ensures) c.judged.ensures
 
 edit-in-requires : tie.Need-edit-in-requires
-edit-in-requires c κs = let z = sizes c.before.before in (z.sender-low, z.sender-high, z.seats-high, z.body-inside, z.short)
+edit-in-requires c κs = let z = sizes c.before.before in (z.sender_low, z.sender_high, z.seats_high, z.body_inside, z.short)
 
 window-with-requires : tie.Need-window-with-requires
-window-with-requires c κs = let z = sizes c.before.before.before.before.before.before.before.before.before in (z.sender-low, z.sender-high)
+window-with-requires c κs = let z = sizes c.before.before.before.before.before.before.before.before.before in (z.sender_low, z.sender_high)
 
 holds-requires : tie.Need-holds-requires
 holds-requires c κs = search rules
@@ -54,13 +54,13 @@ hand-over-requires c κs = let judged = c.before.before in
     let a = start.args in
     let z = sizes start in
     let most : get_or a.seat.past (a.heading.sender.0 - 1) 0 ≤ 65535 = omega (arith, count_fits start) in
-    let w = heard-in-window _ _ _ _ _ _ _ start.requires _ (sym c.enum_told.given.1 ∙ answer-is judged) (done-is-no-refusal _) in
+    let w = heard_in_window _ _ _ _ _ _ _ start.requires _ (sym c.enum_told.given.1 ∙ answer_is judged) (done_is_no_refusal _) in
     record {
-      sender-low = z.sender-low;
-      sender-high = z.sender-high;
-      new = w.above-run;
+      sender_low = z.sender_low;
+      sender_high = z.sender_high;
+      new = w.above_run;
       near = w.in_reach;
-      marks-low = heard-none-above _ _ _ _ _ _ _ start.requires most;
+      marks_low = heard_none_above _ _ _ _ _ _ _ start.requires most;
     }
 
 enum-told-2 : tie.Need-enum-told-2
@@ -74,7 +74,7 @@ lay-requires c κs = let free = c.before in
     let told = free.before.before in
     let judged = told.before.before in
     let start = judged.before.before.before.before.before.before.before.before.before.before.before.before.before in
-    let there = heard-free _ _ _ _ _ _ _ start.requires (sym (answer-is judged) ∙ told.enum-told2.given.1) _ free.lowest-free.ensures in
+    let there = heard_free _ _ _ _ _ _ _ start.requires (sym (answer_is judged) ∙ told.enum-told2.given.1) _ free.lowest-free.ensures in
     (there, (sizes start).short)
 
 enum-told-3 : tie.Need-enum-told-3
@@ -94,8 +94,8 @@ returns c = let told = c.before in
     let judged = told.before.before in
     let start = judged.before.before.before.before.before.before.before.before.before.before.before.before.before in
     let h = start.requires in
-    arrived-done _ _ _ _ (answer-is judged) _ _ told.enum_told.given.1
-    (c.hand-over.ensures ∙ (λ i. handOver start.args.seat (h.heading-is i) (h.past_is i) (h.barrier-is i)))
+    arrived_done _ _ _ _ (answer_is judged) _ _ told.enum_told.given.1
+    (c.hand-over.ensures ∙ (λ i. hand_over start.args.seat (h.heading_is i) (h.past_is i) (h.barrier_is i)))
 
 same-length-2 : tie.Need-same-length-2
 same-length-2 c = search rules
@@ -106,25 +106,25 @@ returns-2 c = let lay = c.before.before in
     let told = free.before.before in
     let judged = told.before.before in
     let start = judged.before.before.before.before.before.before.before.before.before.before.before.before.before in
-    arrived-shelved _ _ _ _ (answer-is judged) _ told.enum-told2.given.1 (lay.lay.ensures ∙ ap (λ (i : ℕ). laid start.args.shelf.now i (slot_of start.args.packet.now)) free.lowest-free.ensures)
+    arrived_shelved _ _ _ _ (answer_is judged) _ told.enum-told2.given.1 (lay.lay.ensures ∙ ap (λ (i : ℕ). laid start.args.shelf.now i (slot_of start.args.packet.now)) free.lowest-free.ensures)
 
 same-length-3 : tie.Need-same-length-3
 same-length-3 c = search rules
 
 returns-3 : tie.Need-returns-3
-returns-3 c = arrived-opened _ _ _ _ (answer-is c.before.before) c.enum-told3.given.1
+returns-3 c = arrived_opened _ _ _ _ (answer_is c.before.before) c.enum-told3.given.1
 
 same-length-4 : tie.Need-same-length-4
 same-length-4 c = search rules
 
 returns-4 : tie.Need-returns-4
-returns-4 c = arrived-idle _ _ _ _ (answer-is c.before.before) c.enum-told4.given.1
+returns-4 c = arrived_idle _ _ _ _ (answer_is c.before.before) c.enum-told4.given.1
 
 same-length-5 : tie.Need-same-length-5
 same-length-5 c = search rules
 
 returns-5 : tie.Need-returns-5
-returns-5 c = arrived-refused _ _ _ _ (answer-is c.before.before) _ c.enum-told5.given.1
+returns-5 c = arrived_refused _ _ _ _ (answer_is c.before.before) _ c.enum-told5.given.1
 
 pub settle-spec : {M : Type 1} → statement M
 settle-spec =

@@ -1,5 +1,5 @@
 -- `hand_over` meets its contract: the state is built of its parts.
-use Rattle.seat.proofs.HandedOver.{handed-over-is}
+use Rattle.seat.proofs.HandedOver.{handed_over_is}
 use borrow.Author.Rules.{rules}
 use Rattle.seat.proofs.state.hand_over.Statement.{statement}
 use Rattle.seat.proofs.state.hand_over.Tie as tie
@@ -57,7 +57,7 @@ returns c = let raise = c.before in
     let past = raise.before in
     let moved = past.before.before.before in
     let a = moved.before.before.before.before.args in
-    handed-over-is a.t1 a.heading a.t3 a.barrier _ _ _ _ raise.raised_by.ensures moved.hand-over.ensures past.max_of.ensures c.max-of2.ensures
+    handed_over_is a.t1 a.heading a.t3 a.barrier _ _ _ _ raise.raised_by.ensures moved.hand-over.ensures past.max_of.ensures c.max-of2.ensures
 
 pub hand-over-spec : {M : Type 1} → statement M
 hand-over-spec =

@@ -1,15 +1,15 @@
 -- `has_sound_windows` meets its contract.
 use Prim.Native.Nat.{◌-◌}
 use lib.ListN.{get_or}
-use Rattle.vectors.proofs.Every.{Gathered, gathered_none, gathered-more, gathered-all}
-use Rattle.window.specs.Window.{soundWindow}
-use Rattle.seat.specs.State.{windowAt, soundWindows}
+use Rattle.vectors.proofs.Every.{Gathered, gathered_none, gathered_more, gathered_all}
+use Rattle.window.specs.Window.{sound_window}
+use Rattle.seat.specs.State.{window_at, sound_windows}
 use borrow.Author.Rules.{rules}
 use Rattle.seat.proofs.state.has_sound_windows.Statement.{statement}
 use Rattle.seat.proofs.state.has_sound_windows.Tie as tie
 
 abbrev invariant-loop : tie.invariant-loop
-invariant-loop seat ok₀ k₀ ok k = Gathered 16 (λ j. soundWindow (get_or seat.past j 0) (windowAt seat j)) k ok
+invariant-loop seat ok₀ k₀ ok k = Gathered 16 (λ j. sound_window (get_or seat.past j 0) (window_at seat j)) k ok
 
 abbrev decreases-loop : tie.decreases-loop
 decreases-loop seat ok₀ k₀ ok k = 16 - k
@@ -46,11 +46,11 @@ loop-less c = search rules
 
 loop-again : tie.Need-loop-preserved invariant-loop decreases-loop
 loop-again c = let turn = c.before.before.before.before in
-    gathered-more _ _ _ _ _ turn.before.loop.invariant turn.loop-test.true (rw c.is-sound.ensures)
+    gathered_more _ _ _ _ _ turn.before.loop.invariant turn.loop-test.true (rw c.is-sound.ensures)
 
 returns : tie.Need-returns invariant-loop decreases-loop
-unfolding soundWindows
-returns c = gathered-all _ _ _ _ c.before.loop.invariant c.loop-test.false
+unfolding sound_windows
+returns c = gathered_all _ _ _ _ c.before.loop.invariant c.loop-test.false
 
 pub has-sound-windows-spec : {M : Type 1} → statement M
 has-sound-windows-spec =

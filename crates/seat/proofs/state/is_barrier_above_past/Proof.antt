@@ -1,5 +1,5 @@
 -- `is_barrier_above_past` meets its contract.
-use Rattle.seat.proofs.HandedOver.{barrier-above-past-is}
+use Rattle.seat.proofs.HandedOver.{barrier_above_past_is}
 use borrow.Author.Rules.{rules}
 use Rattle.seat.proofs.state.is_barrier_above_past.Statement.{statement}
 use Rattle.seat.proofs.state.is_barrier_above_past.Tie as tie
@@ -21,7 +21,7 @@ returns c = let past = c.before in
     let raised = past.before in
     let by = raised.before in
     let a = by.before.before.before.args in
-    barrier-above-past-is a.seat a.heading a.past a.barrier _ _ _ _ by.raised_by.ensures raised.max_of.ensures past.max-of2.ensures c.is_Within.ensures
+    barrier_above_past_is a.seat a.heading a.past a.barrier _ _ _ _ by.raised_by.ensures raised.max_of.ensures past.max-of2.ensures c.is_Within.ensures
 
 pub is-barrier-above-past-spec : {M : Type 1} → statement M
 is-barrier-above-past-spec =

@@ -1,7 +1,7 @@
 -- `count_in` meets its contract.
 use mathlib.Core.Path.{refl}
 use borrow.Author.Tests.{not-true}
-use Rattle.seat.proofs.Beside.{counted-unchosen, counted-first, counted-later}
+use Rattle.seat.proofs.Beside.{counted_unchosen, counted_first, counted_later}
 use borrow.Author.Rules.{rules}
 use Rattle.seat.proofs.stock.count_in.Statement.{statement}
 use Rattle.seat.proofs.stock.count_in.Tie as tie
@@ -25,7 +25,7 @@ mark-in-requires c κs = let start = c.before.before.before in
 returns : tie.Need-returns
 returns c = let marked = c.before in
     let start = marked.before.before.before.before in
-    counted-unchosen _ _ _ _ _ _ _ _ _ _ start.requires.4 refl marked.mark-in.ensures (not-true _ c.if1.true)
+    counted_unchosen _ _ _ _ _ _ _ _ _ _ start.requires.4 refl marked.mark-in.ensures (not-true _ c.if1.true)
 
 key-of-requires : tie.Need-key-of-requires
 key-of-requires c κs = search rules
@@ -38,14 +38,14 @@ returns-2 c = let ready = c.before.before in
     let keyed = ready.before in
     let marked = keyed.before.before in
     let start = marked.before.before.before.before in
-    counted-first _ _ _ _ _ _ _ _ _ _ start.requires.4 refl marked.mark-in.ensures _ _ keyed.key_of.ensures ready.is-ready.ensures c.if2.true
+    counted_first _ _ _ _ _ _ _ _ _ _ start.requires.4 refl marked.mark-in.ensures _ _ keyed.key_of.ensures ready.is_ready.ensures c.if2.true
 
 returns-3 : tie.Need-returns-3
 returns-3 c = let ready = c.before.before in
     let keyed = ready.before in
     let marked = keyed.before.before in
     let start = marked.before.before.before.before in
-    counted-later _ _ _ _ _ _ _ _ _ _ start.requires.4 refl marked.mark-in.ensures _ _ keyed.key_of.ensures ready.is-ready.ensures c.if2.false
+    counted_later _ _ _ _ _ _ _ _ _ _ start.requires.4 refl marked.mark-in.ensures _ _ keyed.key_of.ensures ready.is_ready.ensures c.if2.false
 
 pub count-in-spec : {M : Type 1} → statement M
 count-in-spec =

@@ -1,7 +1,7 @@
 -- `held_in` meets its contract.
 use mathlib.Core.Path.{sym}
 use native.Mathlib.Omega.{arith}
-use Rattle.seat.proofs.InSlot.{named_end, held-is-short, held-stands}
+use Rattle.seat.proofs.InSlot.{named_end, held_is_short, held_stands}
 use borrow.Author.Rules.{rules}
 use Rattle.seat.proofs.stock.held_in.Statement.{statement}
 use Rattle.seat.proofs.stock.held_in.Tie as tie
@@ -42,12 +42,12 @@ part-result-start c = search rules
 part-result-end : tie.Need-slice-bounds-result-end
 part-result-end c = let start = c.before.before in
     let slot = start.args.slot.now in
-    omega (arith, held-is-short slot start.requires.1 _ (named_end slot))
+    omega (arith, held_is_short slot start.requires.1 _ (named_end slot))
 
 returns : tie.Need-returns
 returns c = let start = c.before.before.before in
     let slot = start.args.slot.now in
-    sym (held-stands slot start.requires.1 _ (named_end slot))
+    sym (held_stands slot start.requires.1 _ (named_end slot))
 
 pub held-in-spec : {M : Type 1} → statement M
 held-in-spec =

@@ -6,17 +6,17 @@ use Prim.Native.Nat.{◌+◌, ◌*◌, ◌%◌}
 use lib.ListN.{get_or, length-drop}
 use lib.Seq.{take_all}
 use borrow.Author.Tests.{not-true, not-false}
-use Rattle.shelf.specs.Shelf.{restZero, allZero}
-use Rattle.seat.proofs.InSlot.{named_end, first-byte-not-one, named-too-long, rest-not-zero, packet-stands}
+use Rattle.shelf.specs.Shelf.{rest_zero, all_zero}
+use Rattle.seat.proofs.InSlot.{named_end, first_byte_not_one, named_too_long, rest_not_zero, packet_stands}
 use borrow.Author.Rules.{rules}
 use Rattle.seat.proofs.stock.packet_in.Statement.{statement}
 use Rattle.seat.proofs.stock.packet_in.Tie as tie
 
 -- what the test says of the bytes after the packet
 tested : (c : tie.After-is-zero) → let slot = c.before.before.before.before.before.before.before.before.args.slot.now in
-    c.is_zero.result ≡ restZero slot (1 + 3 + 4 * (get_or slot 1 0 % 16 + 1) + get_or slot 3 0)
+    c.is_zero.result ≡ rest_zero slot (1 + 3 + 4 * (get_or slot 1 0 % 16 + 1) + get_or slot 3 0)
 tested c = let slot = c.before.before.before.before.before.before.before.before.args.slot.now in
-    c.is_zero.ensures ∙ ap allZero (take_all _ _ (le_of_eq (length-drop _ slot)))
+    c.is_zero.ensures ∙ ap all_zero (take_all _ _ (le_of_eq (length-drop _ slot)))
 
 shared-slice-read-seats : tie.Need-shared-slice-read-seats
 shared-slice-read-seats c = search rules
@@ -53,14 +53,14 @@ slice-aggregate-result c = search rules
 
 returns : tie.Need-returns
 returns c = let slot = c.before.before.before.before.before.before.args.slot.now in
-    sym (first-byte-not-one slot _ (named_end slot) c.before.if1.true)
+    sym (first_byte_not_one slot _ (named_end slot) c.before.if1.true)
 
 slice-aggregate-result-2 : tie.Need-slice-aggregate-result-2
 slice-aggregate-result-2 c = search rules
 
 returns-2 : tie.Need-returns-2
 returns-2 c = let slot = c.before.before.before.before.before.before.before.args.slot.now in
-    sym (named-too-long slot _ (named_end slot) c.before.if2.true)
+    sym (named_too_long slot _ (named_end slot) c.before.if2.true)
 
 sub-is-zero : tie.Need-overflow-sub-is-zero
 sub-is-zero c = search rules
@@ -79,7 +79,7 @@ slice-aggregate-result-3 c = search rules
 
 returns-3 : tie.Need-returns-3
 returns-3 c = let slot = c.before.before.before.before.before.before.before.before.before.before.args.slot.now in
-    sym (rest-not-zero slot _ (named_end slot) (sym (tested c.before.before) ∙ not-true _ c.before.if3.true))
+    sym (rest_not_zero slot _ (named_end slot) (sym (tested c.before.before) ∙ not-true _ c.before.if3.true))
 
 sub-result : tie.Need-overflow-sub-result
 sub-result c = search rules
@@ -93,7 +93,7 @@ part-result-end c = search rules
 returns-4 : tie.Need-returns-4
 returns-4 c = let slot = c.before.before.before.before.before.before.before.before.before.before.args.slot.now in
     let zeros = sym (tested c.before.before) ∙ not-false _ c.before.if3.false in
-    sym (packet-stands slot _ (named_end slot) c.before.before.before.before.before.if1.false c.before.before.before.before.if2.false zeros)
+    sym (packet_stands slot _ (named_end slot) c.before.before.before.before.before.if1.false c.before.before.before.before.if2.false zeros)
 
 pub packet-in-spec : {M : Type 1} → statement M
 packet-in-spec =

@@ -5,8 +5,8 @@ use mathlib.Core.List.{List}
 use lib.Dec.{ltb}
 use lib.ListN.{get_or}
 use Rattle.window.specs.declared.Window.{Window}
-use Rattle.seat.specs.Survey.{windowWith}
-use Rattle.seat.proofs.Beside.{passes-by-tests}
+use Rattle.seat.specs.Survey.{window_with}
+use Rattle.seat.proofs.Beside.{passes_by_tests}
 use borrow.Author.Rules.{rules}
 use Rattle.seat.proofs.stock.passes_beside.Statement.{statement}
 use Rattle.seat.proofs.stock.passes_beside.Tie as tie
@@ -59,8 +59,8 @@ returns c = let counted = c.before.before.before.before.before in
     let window = held.before in
     let start = window.before.before.before.before.before in
     let a = start.args in
-    let is-window = window.window-with.ensures ∙ ap (λ (run : List ℕ). windowWith run a.words.now a.heading.sender) start.requires.4 in
-    passes-by-tests _ _ _ _ _ _ _ _ _ refl is-window held.holds.ensures
+    let is-window = window.window-with.ensures ∙ ap (λ (run : List ℕ). window_with run a.words.now a.heading.sender) start.requires.4 in
+    passes_by_tests _ _ _ _ _ _ _ _ _ refl is-window held.holds.ensures
     (ap (λ (n : ℕ). ltb n (get_or a.past.now (a.seat.own.0 - 1) 0)) counted.own-count.ensures)
     (ap (λ (w : Window). ltb (w.run + 64) (get_or a.past.now (a.heading.sender.0 - 1) 0)) is-window)
 

@@ -2,24 +2,24 @@
 use mathlib.Core.Path.{◌≡◌, ap, ◌∙◌}
 use lib.ListN.{length}
 use Rattle.packet.specs.Reading.{read_of}
-use Rattle.packet.proofs.Told.{told-refused}
-use Rattle.shelf.proofs.Slots.{length-slotAt}
-use Rattle.seat.specs.Stock.{packetIn, packetAt}
-use Rattle.seat.proofs.ChosenPacket.{chosen-passes, chosen-read}
+use Rattle.packet.proofs.Told.{told_refused}
+use Rattle.shelf.proofs.Slots.{length_slot_at}
+use Rattle.seat.specs.Stock.{packet_in, packet_at}
+use Rattle.seat.proofs.ChosenPacket.{chosen_passes, chosen_read}
 use borrow.Author.Rules.{rules}
 use Rattle.seat.proofs.taking.take.Statement.{statement}
 use Rattle.seat.proofs.taking.take.Tie as tie
 
 -- what was read is the packet on the slot
-reading-is : (c : tie.After-read) → let start = c.before.before.before.before.before.before in c.read.result ≡ read_of (packetAt start.args.shelf.now start.args.i)
-reading-is c = c.read.ensures ∙ ap read_of (c.before.held_in.ensures ∙ ap packetIn c.before.before.slot.ensures)
+reading-is : (c : tie.After-read) → let start = c.before.before.before.before.before.before in c.read.result ≡ read_of (packet_at start.args.shelf.now start.args.i)
+reading-is c = c.read.ensures ∙ ap read_of (c.before.held_in.ensures ∙ ap packet_in c.before.before.slot.ensures)
 
 slot-requires : tie.Need-slot-requires
 slot-requires c κs = search rules
 
 held-in-requires : tie.Need-held-in-requires
 held-in-requires c κs = let start = c.before.before.before.before in
-    (ap length c.slot.ensures ∙ length-slotAt _ _ start.requires.there, rw c.slot.ensures (chosen-passes _ _ _ start.requires).well-formed)
+    (ap length c.slot.ensures ∙ length_slot_at _ _ start.requires.there, rw c.slot.ensures (chosen_passes _ _ _ start.requires).is_well_formed)
 
 read-requires : tie.Need-read-requires
 read-requires c κs = search rules
@@ -37,7 +37,7 @@ hand-out-requires : tie.Need-hand-out-requires
 hand-out-requires c κs = let told = c.before.before.before in
     let read = told.before.before.before.before in
     let start = read.before.before.before.before.before.before in
-    chosen-read _ _ _ read.read.result _ start.requires (reading-is read) told.told.given.1
+    chosen_read _ _ _ read.read.result _ start.requires (reading-is read) told.told.given.1
 
 same_length : tie.Need-same-length
 same_length c = search rules
@@ -46,7 +46,7 @@ returns : tie.Need-returns
 returns c = let told = c.before in
     let read = told.before.before.before.before in
     let start = read.before.before.before.before.before.before in
-    absurd (told-refused _ read.read.result (reading-is read) told.enum_told.given.1 (chosen-passes _ _ _ start.requires).well-formed)
+    absurd (told_refused _ read.read.result (reading-is read) told.enum_told.given.1 (chosen_passes _ _ _ start.requires).is_well_formed)
 
 same-length-2 : tie.Need-same-length-2
 same-length-2 c = search rules

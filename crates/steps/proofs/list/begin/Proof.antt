@@ -1,5 +1,5 @@
 -- `begin` meets its contract.
-use Rattle.steps.proofs.Printing.{list-begun}
+use Rattle.steps.proofs.Printing.{list_begun}
 use borrow.Author.Rules.{rules}
 use Rattle.steps.proofs.list.begin.Statement.{statement}
 use Rattle.steps.proofs.list.begin.Tie as tie
@@ -20,7 +20,7 @@ returns : tie.Need-returns
 returns c = let opened = c.before.before.before in
     let start = opened.before.before.before in
     λ number packets out.
-    list-begun _ _ start.args.at _ _ c.no_line.ensures.0 c.no_line.ensures.1 opened.open-session.ensures.0 packets out (opened.open-session.ensures.1 packets)
+    list_begun _ _ start.args.at _ _ c.no_line.ensures.0 c.no_line.ensures.1 opened.open-session.ensures.0 packets out (opened.open-session.ensures.1 packets)
 
 pub begin-spec : {M : Type 1} → statement M
 begin-spec =

@@ -1,6 +1,6 @@
 -- `finish` meets its contract.
 use mathlib.Core.Path.{sym, ◌∙◌}
-use Rattle.steps.proofs.Texts.{done-finished, line-finished}
+use Rattle.steps.proofs.Texts.{done_finished, line_finished}
 use borrow.Author.Rules.{rules}
 use Rattle.steps.proofs.list.finish.Statement.{statement}
 use Rattle.steps.proofs.list.finish.Tie as tie
@@ -11,7 +11,7 @@ is-done-requires c κs = search rules
 returns : tie.Need-returns
 returns c = let start = c.before.before.before.before.before in
     let a = start.args in
-    done-finished a.course a.shelves.now a.packets.now a.out.now (sym c.before.is-done.ensures ∙ c.if1.true)
+    done_finished a.course a.shelves.now a.packets.now a.out.now (sym c.before.is-done.ensures ∙ c.if1.true)
 
 take-line-requires : tie.Need-take-line-requires
 take-line-requires c κs = search rules
@@ -30,7 +30,7 @@ returns-2 c = let done = c.before.before.before.before.before.before in
     let other = done.before.before.before.before in
     let start = c.before.before.before.before.before.before.before.before.before.before.before.before.before.before.before in
     let a = start.args in
-    line-finished a.course a.shelves.now a.packets.now a.out.now done.take-line.result _ _ _ start.requires.0 (sym other.before.is-done.ensures ∙ other.if1.false) done.take-line.ensures
+    line_finished a.course a.shelves.now a.packets.now a.out.now done.take-line.result _ _ _ start.requires.0 (sym other.before.is-done.ensures ∙ other.if1.false) done.take-line.ensures
 
 pub finish_spec : {M : Type 1} → statement M
 finish_spec =

@@ -4,14 +4,14 @@ use mathlib.Core.Path.{◌≡◌, sym, ap, ◌∙◌}
 use native.Mathlib.Decide.{dec_lt}
 use native.Mathlib.Omega.{arith}
 use lib.ListN.{length, get_or}
-use Rattle.lines.specs.Lines.{lineFeed}
+use Rattle.lines.specs.Lines.{line_feed}
 use borrow.Author.Rules.{rules}
 use Rattle.steps.proofs.list.line_end.Statement.{statement}
 use Rattle.steps.proofs.list.line_end.Tie as tie
 
 abbrev invariant-loop : tie.invariant-loop
 invariant-loop text from k₀ k-end k =
-    (from ≤ k) × (k ≤ length text) × ((j : ℕ) → from ≤ j → j < k → get_or text j 0 ≡ lineFeed → ⊥)
+    (from ≤ k) × (k ≤ length text) × ((j : ℕ) → from ≤ j → j < k → get_or text j 0 ≡ line_feed → ⊥)
 
 abbrev decreases-loop : tie.decreases-loop
 decreases-loop text from k₀ k-end k = length text - k
@@ -24,7 +24,7 @@ shared-slice-read-if1 c = search rules
 
 returns : tie.Need-returns invariant-loop decreases-loop
 returns c = let turn = c.before.before.before in
-    record { low = turn.loop.invariant.0; high = turn.loop.invariant.1; no-feed = turn.loop.invariant.2; at-feed = λ h. c.if1.true }
+    record { low = turn.loop.invariant.0; high = turn.loop.invariant.1; no_feed = turn.loop.invariant.2; at_feed = λ h. c.if1.true }
 
 add-k : tie.Need-overflow-add-k invariant-loop decreases-loop
 add-k c = search rules
@@ -45,7 +45,7 @@ loop-again c = let turn = c.before.before.before in (
 
 returns-2 : tie.Need-returns-2 invariant-loop decreases-loop
 returns-2 c = let turn = c.before in
-    record { low = turn.before.requires; high = omega arith; no-feed = λ j low high. turn.loop.invariant.2 j low (omega arith); at-feed = λ h. omega arith }
+    record { low = turn.before.requires; high = omega arith; no_feed = λ j low high. turn.loop.invariant.2 j low (omega arith); at_feed = λ h. omega arith }
 
 pub line-end-spec : {M : Type 1} → statement M
 line-end-spec =

@@ -1,6 +1,6 @@
 -- `put_report` meets its contract.
 use Prim.Native.Nat.{◌^◌, ◌<◌}
-use Rattle.lines.proofs.AnswerLength.{answer-line-short}
+use Rattle.lines.proofs.AnswerLength.{answer_line_short}
 use borrow.Author.Rules.{rules}
 use Rattle.steps.proofs.list.put_report.Statement.{statement}
 use Rattle.steps.proofs.list.put_report.Tie as tie
@@ -8,14 +8,14 @@ use Rattle.steps.proofs.list.put_report.Tie as tie
 number_fits : (c : tie.Start) → c.args.number < 2 ^ 64
 number_fits c = search rules
 
-answer-fits : (c : tie.Start) → c.args.report.answer < 256
-answer-fits c = search rules
+answer_fits : (c : tie.Start) → c.args.report.answer < 256
+answer_fits c = search rules
 
-sender-fits : (c : tie.Start) → c.args.report.edit.sender.0 < 256
-sender-fits c = search rules
+sender_fits : (c : tie.Start) → c.args.report.edit.sender.0 < 256
+sender_fits c = search rules
 
-edit-fits : (c : tie.Start) → c.args.report.edit.number.0 < 65536
-edit-fits c = search rules
+edit_fits : (c : tie.Start) → c.args.report.edit.number.0 < 65536
+edit_fits c = search rules
 
 put-answer-requires : tie.Need-put-answer-requires
 put-answer-requires c κs = search rules
@@ -27,7 +27,7 @@ returns : tie.Need-returns
 returns c = let wrote = c.before.before in
     let start = wrote.before.before.before.before.before.before in (
       wrote.put-answer.ensures,
-      answer-line-short (record { number_fits = number_fits start; answer-fits = answer-fits start; sender-fits = sender-fits start; edit-fits = edit-fits start }),
+      answer_line_short (record { number_fits = number_fits start; answer_fits = answer_fits start; sender_fits = sender_fits start; edit_fits = edit_fits start }),
     )
 
 pub put-report-spec : {M : Type 1} → statement M

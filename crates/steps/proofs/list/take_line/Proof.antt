@@ -2,9 +2,9 @@
 use mathlib.Core.Path.{sym}
 use native.Mathlib.Omega.{arith}
 use lib.Seq.{length-take-le}
-use Rattle.steps.specs.Memory.{sessionIn}
-use Rattle.steps.specs.Course.{lineIn}
-use Rattle.steps.proofs.Printing.{taken-alike, first-line, walking_line, ended-line, list-ended}
+use Rattle.steps.specs.Memory.{session_in}
+use Rattle.steps.specs.Course.{line_in}
+use Rattle.steps.proofs.Printing.{taken_alike, first_line_is, walking_line, ended_line, list_ended}
 use borrow.Author.Rules.{rules}
 use Rattle.steps.proofs.list.take_line.Statement.{statement}
 use Rattle.steps.proofs.list.take_line.Tie as tie
@@ -49,7 +49,7 @@ returns : tie.Need-returns
 returns c = let done = c.before.before.before.before in
     let met = done.before.before.before.before in
     let a = met.before.before.before.before.before.before.before.before.args in
-    taken-alike (λ lines. first-line a.course.stage a.course.number (sessionIn a.course.walk a.shelves.now a.packets.now) (lineIn a.course.line) lines met.enum_told.given.1) (done.take-opening.ensures a.course.number a.packets.now)
+    taken_alike (λ lines. first_line_is a.course.stage a.course.number (session_in a.course.walk a.shelves.now a.packets.now) (line_in a.course.line) lines met.enum_told.given.1) (done.take-opening.ensures a.course.number a.packets.now)
 
 same-length-3 : tie.Need-same-length-3
 same-length-3 c = search rules
@@ -64,13 +64,13 @@ returns-2 : tie.Need-returns-2
 returns-2 c = let done = c.before.before.before.before.before.before in
     let met = done.before.before.before.before.before in
     let a = met.before.before.before.before.before.before.before.before.args in
-    taken-alike (λ lines. walking_line a.course.stage a.course.number (sessionIn a.course.walk a.shelves.now a.packets.now) (lineIn a.course.line) lines met.enum-told2.given.1) done.take_step.ensures
+    taken_alike (λ lines. walking_line a.course.stage a.course.number (session_in a.course.walk a.shelves.now a.packets.now) (line_in a.course.line) lines met.enum-told2.given.1) done.take_step.ensures
 
 returns-3 : tie.Need-returns-3
 returns-3 c = let met = c.before in
     let start = met.before.before.before.before.before.before.before.before in
     let a = start.args in
-    list-ended a.at a.out.now c.ended.ensures start.requires.0.bounded (λ lines. ended-line a.course.stage a.course.number (sessionIn a.course.walk a.shelves.now a.packets.now) (lineIn a.course.line) lines met.enum-told3.given.1)
+    list_ended a.at a.out.now c.ended.ensures start.requires.0.bounded (λ lines. ended_line a.course.stage a.course.number (session_in a.course.walk a.shelves.now a.packets.now) (line_in a.course.line) lines met.enum-told3.given.1)
 
 pub take-line-spec : {M : Type 1} → statement M
 take-line-spec =

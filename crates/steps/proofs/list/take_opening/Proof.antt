@@ -5,8 +5,8 @@ use borrow.Author.Tests.{leb-true}
 use lib.Dec.{leb}
 use Rattle.vectors.proofs.Every.{and_both}
 use Rattle.lines.specs.declared.Opening.{Opening}
-use Rattle.steps.specs.Printed.{walkedFrom}
-use Rattle.steps.proofs.Printing.{good-opening, bad-opening, taken-alike}
+use Rattle.steps.specs.Printed.{walked_from}
+use Rattle.steps.proofs.Printing.{good_opening, bad_opening, taken_alike}
 use borrow.Author.Rules.{rules}
 use Rattle.steps.proofs.list.take_opening.Statement.{statement}
 use Rattle.steps.proofs.list.take_opening.Tie as tie
@@ -34,8 +34,8 @@ returns c = let begun = c.before.before in
     let read = opening.before.before in
     let a = read.before.before.before.before.args in
     λ number packets.
-    taken-alike
-    (λ lines. sym (good-opening opening.opening.given.0.0 opening.opening.given.0.1.0 lines begun.before.before.if1.true) ∙ ap (λ (o : Opening). walkedFrom o lines) (sym opening.opening.given.1 ∙ read.read-opening.ensures))
+    taken_alike
+    (λ lines. sym (good_opening opening.opening.given.0.0 opening.opening.given.0.1.0 lines begun.before.before.if1.true) ∙ ap (λ (o : Opening). walked_from o lines) (sym opening.opening.given.1 ∙ read.read-opening.ensures))
     (begun.begin.ensures number packets a.out.now)
 
 refuse-list-requires : tie.Need-refuse-list-requires
@@ -56,8 +56,8 @@ returns-2 c = let refused = c.before.before in
     let read = opening.before.before in
     let a = read.before.before.before.before.args in
     λ number packets.
-    taken-alike
-    (λ lines. sym (bad-opening opening.opening.given.0.0 opening.opening.given.0.1.0 lines refused.before.before.if1.false) ∙ ap (λ (o : Opening). walkedFrom o lines) (sym opening.opening.given.1 ∙ read.read-opening.ensures))
+    taken_alike
+    (λ lines. sym (bad_opening opening.opening.given.0.0 opening.opening.given.0.1.0 lines refused.before.before.if1.false) ∙ ap (λ (o : Opening). walked_from o lines) (sym opening.opening.given.1 ∙ read.read-opening.ensures))
     (refused.refuse-list.ensures number a.shelves.now packets)
 
 same-length-3 : tie.Need-same-length-3
@@ -69,7 +69,7 @@ returns-3 c = let refused = c.before.before in
     let read = opening.before.before in
     let a = read.before.before.before.before.args in
     λ number packets.
-    taken-alike (λ lines. ap (λ (o : Opening). walkedFrom o lines) (sym opening.enum_told.given.1 ∙ read.read-opening.ensures))
+    taken_alike (λ lines. ap (λ (o : Opening). walked_from o lines) (sym opening.enum_told.given.1 ∙ read.read-opening.ensures))
     (refused.refuse-list2.ensures number a.shelves.now packets)
 
 pub take-opening-spec : {M : Type 1} → statement M

@@ -3,15 +3,15 @@ use Prim.Native.Nat.{◌-◌}
 use mathlib.Core.Path.{◌≡◌, sym, ◌∙◌}
 use native.Mathlib.Omega.{arith}
 use lib.ListN.{length}
-use Rattle.steps.specs.Memory.{shelvesSize, packetsSize}
-use Rattle.steps.proofs.Texts.{Going, nothing_yet, goes_further, all-taken}
+use Rattle.steps.specs.Memory.{shelves_size, packets_size}
+use Rattle.steps.proofs.Texts.{Going, nothing_yet, goes_further, all_taken}
 use borrow.Author.Rules.{rules}
 use Rattle.steps.proofs.list.take_piece.Statement.{statement}
 use Rattle.steps.proofs.list.take_piece.Tie as tie
 
 abbrev invariant-loop : tie.invariant-loop
 invariant-loop text shelves₀ packets₀ out₀ now₀ end₀ from₀ shelves packets out (λ x. x.now) end from =
-    Going now₀ text shelves₀ packets₀ (length out₀) shelves packets out (λ x. x.now) end from × (length shelves ≡ shelvesSize) × (length packets ≡ packetsSize)
+    Going now₀ text shelves₀ packets₀ (length out₀) shelves packets out (λ x. x.now) end from × (length shelves ≡ shelves_size) × (length packets ≡ packets_size)
 
 abbrev decreases-loop : tie.decreases-loop
 decreases-loop text shelves₀ packets₀ out₀ now₀ end₀ from₀ shelves packets out now end from = length text - from
@@ -26,7 +26,7 @@ take-text-requires c κs = let turn = c.before.before.before.before in
     let start = c.before.before.before.before.before.before.before.before.before in
     let going = turn.loop.invariant.0 in
     let less = c.before.before.before.loop-test.true in
-    (going.ready, omega (arith, going.counts, less, start.requires.1), less, turn.loop.invariant.1, turn.loop.invariant.2, omega (arith, going.high, going.same-room, less, start.requires.4))
+    (going.ready, omega (arith, going.counts, less, start.requires.1), less, turn.loop.invariant.1, turn.loop.invariant.2, omega (arith, going.high, going.same_room, less, start.requires.4))
 
 loop-less : tie.Need-loop-smaller invariant-loop decreases-loop
 loop-less c = let more = c.before.before.before.before.before.before.before.take-text.ensures in omega (arith, more.further, more.inside)
@@ -52,13 +52,13 @@ same-length-2 : tie.Need-same-length-2 invariant-loop decreases-loop
 same-length-2 c = let start = c.before.before.before.before.before.before in c.before.loop.invariant.2 ∙ sym start.requires.3
 
 same-length-3 : tie.Need-same-length-3 invariant-loop decreases-loop
-same-length-3 c = c.before.loop.invariant.0.same-room
+same-length-3 c = c.before.loop.invariant.0.same_room
 
 returns : tie.Need-returns invariant-loop decreases-loop
 returns c = let start = c.before.before.before.before.before.before in
     let a = start.args in
     let turn = c.before in
-    all-taken a.course a.text.now a.shelves.now a.packets.now a.out.now turn.loop.shelves turn.loop.packets turn.loop.out turn.loop.now turn.loop.end turn.loop.from c.loop-test.false turn.loop.invariant.0
+    all_taken a.course a.text.now a.shelves.now a.packets.now a.out.now turn.loop.shelves turn.loop.packets turn.loop.out turn.loop.now turn.loop.end turn.loop.from c.loop-test.false turn.loop.invariant.0
 
 pub take-piece-spec : {M : Type 1} → statement M
 take-piece-spec =

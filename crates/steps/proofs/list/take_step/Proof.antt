@@ -1,6 +1,6 @@
 -- `take_step` meets its contract.
-use Rattle.steps.specs.Memory.{sessionIn}
-use Rattle.steps.proofs.Printing.{step-taken}
+use Rattle.steps.specs.Memory.{session_in}
+use Rattle.steps.proofs.Printing.{step_taken}
 use borrow.Author.Rules.{rules}
 use Rattle.steps.proofs.list.take_step.Statement.{statement}
 use Rattle.steps.proofs.list.take_step.Tie as tie
@@ -35,7 +35,7 @@ returns c = let wrote = c.before.before.before in
     let read = walked.before.before.before in
     let start = c.before.before.before.before.before.before.before.before.before.before.before.before.before.before.before.before.before.before.before in
     let a = start.args in
-    step-taken a.number a.at a.out.now a.line.now (sessionIn a.walk a.shelves.now a.packets.now) walked.walk_step.result read.Read-step.result
+    step_taken a.number a.at a.out.now a.line.now (session_in a.walk a.shelves.now a.packets.now) walked.walk_step.result read.Read-step.result
     read.Read-step.ensures walked.walk_step.ensures wrote.put-report.ensures.0 wrote.put-report.ensures.1 start.requires.4 c.no_line.result c.no_line.ensures.0 c.no_line.ensures.1
 
 pub take-step-spec : {M : Type 1} → statement M

@@ -4,7 +4,7 @@ use native.Mathlib.Omega.{arith}
 use lib.ListN.{length}
 use mir.Val.{Fits}
 use mir.Syntax.{w64}
-use Rattle.steps.proofs.Texts.{kept-ready, piece-ends, line-ends}
+use Rattle.steps.proofs.Texts.{kept_ready, piece_ends, line_ends}
 use borrow.Author.Rules.{rules}
 use Rattle.steps.proofs.list.take_text.Statement.{statement}
 use Rattle.steps.proofs.list.take_text.Tie as tie
@@ -32,7 +32,7 @@ returns c = let kept = c.before.before in
     let found = c.before.before.before.before in
     let start = c.before.before.before.before.before.before.before.before.before in
     let a = start.args in
-    piece-ends a.course a.text.now a.from found.line-end.result kept.keep.result start.requires.0 found.line-end.ensures kept.keep.ensures
+    piece_ends a.course a.text.now a.from found.line-end.result kept.keep.result start.requires.0 found.line-end.ensures kept.keep.ensures
     a.shelves.now a.packets.now a.out.now a.at start.requires.2 c.if1.true
 
 take-line-requires : tie.Need-take-line-requires
@@ -40,7 +40,7 @@ take-line-requires c κs = let kept = c.before.before.before.before.before in
     let found = c.before.before.before.before.before.before.before in
     let start = c.before.before.before.before.before.before.before.before.before.before.before.before in
     let a = start.args in
-    (kept-ready a.course a.text.now a.from found.line-end.result kept.keep.result start.requires.0 found.line-end.ensures kept.keep.ensures, start.requires.1, start.requires.3, start.requires.4, start.requires.5)
+    (kept_ready a.course a.text.now a.from found.line-end.result kept.keep.result start.requires.0 found.line-end.ensures kept.keep.ensures, start.requires.1, start.requires.3, start.requires.4, start.requires.5)
 
 add-next : tie.Need-overflow-add-next
 add-next c = let found = c.before.before.before.before.before.before.before.before.before.before.before.before.before.before.before in
@@ -64,7 +64,7 @@ returns-2 c = let done = c.before.before.before.before.before.before.before in
     let start = c.before.before.before.before.before.before.before.before.before.before.before.before.before.before.before.before.before.before.before.before in
     let a = start.args in
     let other = c.before.before.before.before.before.before.before.before.before.before.before.if1.false in
-    line-ends a.course a.text.now a.from found.line-end.result kept.keep.result start.requires.0 found.line-end.ensures kept.keep.ensures
+    line_ends a.course a.text.now a.from found.line-end.result kept.keep.result start.requires.0 found.line-end.ensures kept.keep.ensures
     a.shelves.now a.packets.now a.out.now a.at done.take-line.result done.take-line.new.1.0 done.take-line.new.1.1.0 done.take-line.new.1.1.1.0
     (omega (arith, found.line-end.ensures.high)) done.take-line.ensures
 

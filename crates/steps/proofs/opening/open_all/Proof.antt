@@ -3,15 +3,15 @@ use Prim.Native.Nat.{ℕ, ◌-◌, ◌≤◌}
 use mathlib.Core.Path.{◌≡◌, refl, subst, sym, ◌∙◌}
 use native.Mathlib.Omega.{arith}
 use lib.ListN.{length}
-use Rattle.steps.specs.Memory.{shelvesSize, AllOpened}
-use Rattle.steps.proofs.Opened.{none-opened, opened_inside, one-more-opened}
+use Rattle.steps.specs.Memory.{shelves_size, AllOpened}
+use Rattle.steps.proofs.Opened.{none_opened, opened_inside, one_more_opened}
 use borrow.Author.Rules.{rules}
 use Rattle.steps.proofs.opening.open_all.Statement.{statement}
 use Rattle.steps.proofs.opening.open_all.Tie as tie
 
 abbrev invariant-loop : tie.invariant-loop
 invariant-loop n slots shelves₀ seats₀ at₀ at-end shelves seats at =
-    (at ≤ n) × (length shelves ≡ shelvesSize) × AllOpened at n slots seats shelves
+    (at ≤ n) × (length shelves ≡ shelves_size) × AllOpened at n slots seats shelves
 
 abbrev decreases-loop : tie.decreases-loop
 decreases-loop n slots shelves₀ seats₀ at₀ at-end shelves seats at = n - at
@@ -21,7 +21,7 @@ nobody-requires c κs = search rules
 
 loop-holds : tie.Need-loop-init invariant-loop decreases-loop
 loop-holds c = let start = c.before.before in
-    (omega arith, start.requires.2, none-opened start.args.n start.args.slots _ start.args.shelves.now refl)
+    (omega arith, start.requires.2, none_opened start.args.n start.args.slots _ start.args.shelves.now refl)
 
 open-at-requires : tie.Need-open-at-requires invariant-loop decreases-loop
 open-at-requires c κs = let start = c.before.before.before.before.before in
@@ -48,7 +48,7 @@ loop-again c = let done = c.before.before in
     let long : length done.open_at.new.1.1.1.0 ≡ length turn.loop.shelves = search rules in (
       omega (arith, less),
       long ∙ turn.loop.invariant.1,
-      one-more-opened start.args.n start.args.slots start.requires.0 start.requires.1 turn.loop.at turn.loop.seats turn.loop.shelves done.open_at.result _ less turn.loop.invariant.1 turn.loop.invariant.2 done.open_at.ensures,
+      one_more_opened start.args.n start.args.slots start.requires.0 start.requires.1 turn.loop.at turn.loop.seats turn.loop.shelves done.open_at.result _ less turn.loop.invariant.1 turn.loop.invariant.2 done.open_at.ensures,
     )
 
 same_length : tie.Need-same-length invariant-loop decreases-loop

@@ -1,5 +1,5 @@
 -- `open_at` meets its contract.
-use Rattle.steps.proofs.Opened.{opened-at}
+use Rattle.steps.proofs.Opened.{opened_at}
 use borrow.Author.Rules.{rules}
 use Rattle.steps.proofs.opening.open_at.Statement.{statement}
 use Rattle.steps.proofs.opening.open_at.Tie as tie
@@ -38,7 +38,7 @@ returns : tie.Need-returns
 returns c = let done = c.before.before.before in
     let start = done.before.before.before in
     let a = start.args in
-    opened-at a.n a.slots a.at start.requires.0 start.requires.1 start.requires.2 a.shelves.now done.«open».result _ start.requires.3 done.«open».ensures
+    opened_at a.n a.slots a.at start.requires.0 start.requires.1 start.requires.2 a.shelves.now done.«open».result _ start.requires.3 done.«open».ensures
 
 pub open-at-spec : {M : Type 1} → statement M
 open-at-spec =

@@ -1,5 +1,5 @@
 -- `arrive_at` meets its contract.
-use Rattle.steps.proofs.AtSeat.{arrived-at}
+use Rattle.steps.proofs.AtSeat.{arrived_at}
 use borrow.Author.Rules.{rules}
 use Rattle.steps.proofs.walk.arrive_at.Statement.{statement}
 use Rattle.steps.proofs.walk.arrive_at.Tie as tie
@@ -38,7 +38,7 @@ same_length : tie.Need-same-length
 same_length c = search rules
 
 returns : tie.Need-returns
-returns c = let arrived = c.before.before.before in arrived-at _ _ _ _ _ _ _ arrived.arrive.ensures c.moved_on.ensures
+returns c = let arrived = c.before.before.before in arrived_at _ _ _ _ _ _ _ arrived.arrive.ensures c.moved_on.ensures
 
 pub arrive-at-spec : {M : Type 1} → statement M
 arrive-at-spec =

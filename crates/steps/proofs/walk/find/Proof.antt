@@ -7,7 +7,7 @@ use borrow.Author.Count.{below_more}
 use borrow.Author.Rules.{rules}
 use lib.Dec.{eqb}
 use lib.ListN.{get_or}
-use Rattle.shelf.proofs.Lowest.{only-lowest}
+use Rattle.shelf.proofs.Lowest.{only_lowest}
 use Rattle.steps.proofs.walk.find.Statement.{statement}
 use Rattle.steps.proofs.walk.find.Tie as tie
 
@@ -38,7 +38,7 @@ cast-if1-2 c = search rules
 
 returns : tie.Need-returns invariant-loop decreases-loop
 returns c = let at = c.before.before.before.before in
-    only-lowest _ _ _ (record { most = at.loop.invariant.0; fails-below = at.loop.invariant.1; holds = λ h. c.if1.true })
+    only_lowest _ _ _ (record { most = at.loop.invariant.0; fails_below = at.loop.invariant.1; holds = λ h. c.if1.true })
 
 add-i : tie.Need-overflow-add-i invariant-loop decreases-loop
 add-i c = search rules
@@ -51,7 +51,7 @@ loop-again c = (omega arith, below_more _ _ c.before.before.before.before.loop.i
 
 returns-2 : tie.Need-returns-2 invariant-loop decreases-loop
 returns-2 c = let at = c.before in
-    only-lowest _ _ _ (record { most = omega arith; fails-below = λ k h. at.loop.invariant.1 k (omega arith); holds = λ h. absurd (omega arith) })
+    only_lowest _ _ _ (record { most = omega arith; fails_below = λ k h. at.loop.invariant.1 k (omega arith); holds = λ h. absurd (omega arith) })
 
 pub find_spec : {M : Type 1} → statement M
 find_spec =

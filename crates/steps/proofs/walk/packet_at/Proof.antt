@@ -5,7 +5,7 @@ use native.Mathlib.Nat.{add-zero}
 use native.Mathlib.Omega.{arith}
 use lib.ListN.{take}
 use Rattle.steps.specs.Memory.{piece}
-use Rattle.steps.proofs.Parts.{part-start}
+use Rattle.steps.proofs.Parts.{part_start}
 use borrow.Author.Rules.{rules}
 use Rattle.steps.proofs.walk.packet_at.Statement.{statement}
 use Rattle.steps.proofs.walk.packet_at.Tie as tie
@@ -36,7 +36,7 @@ part-result-end c = search rules
 
 returns : tie.Need-returns
 returns c = let start = c.before.before in
-    part-start 67 _ start.args.packets.now (3 + 4 * start.args.walk.n) (omega arith) ∙ ap (λ (k : ℕ). take k (piece 67 start.args.packets.now start.args.i)) (sym (add-zero (3 + 4 * start.args.walk.n)))
+    part_start 67 _ start.args.packets.now (3 + 4 * start.args.walk.n) (omega arith) ∙ ap (λ (k : ℕ). take k (piece 67 start.args.packets.now start.args.i)) (sym (add-zero (3 + 4 * start.args.walk.n)))
 
 pub packet-at-spec : {M : Type 1} → statement M
 packet-at-spec =

@@ -1,5 +1,5 @@
 -- `release_at` meets its contract.
-use Rattle.steps.proofs.AtSeat.{released-at}
+use Rattle.steps.proofs.AtSeat.{released_at}
 use borrow.Author.Rules.{rules}
 use Rattle.steps.proofs.walk.release_at.Statement.{statement}
 use Rattle.steps.proofs.walk.release_at.Tie as tie
@@ -41,7 +41,7 @@ same_length : tie.Need-same-length
 same_length c = search rules
 
 returns : tie.Need-returns
-returns c = let released = c.before.before.before.before in released-at _ _ _ _ _ _ _ released.release.ensures c.moved_on.ensures
+returns c = let released = c.before.before.before.before in released_at _ _ _ _ _ _ _ released.release.ensures c.moved_on.ensures
 
 pub release-at-spec : {M : Type 1} → statement M
 release-at-spec =

@@ -1,5 +1,5 @@
 -- `send_at` meets its contract.
-use Rattle.steps.proofs.AtSeat.{sent-at}
+use Rattle.steps.proofs.AtSeat.{sent_at}
 use borrow.Author.Rules.{rules}
 use Rattle.steps.proofs.walk.send_at.Statement.{statement}
 use Rattle.steps.proofs.walk.send_at.Tie as tie
@@ -39,7 +39,7 @@ same_length c = search rules
 
 returns : tie.Need-returns
 returns c = let sent = c.before.before.before.before in
-    sent-at _ _ _ _ _ _ _ _ sent.send-empty.ensures c.before.with-letter.ensures c.moved_on.ensures
+    sent_at _ _ _ _ _ _ _ _ sent.send-empty.ensures c.before.with-letter.ensures c.moved_on.ensures
 
 pub send-at-spec : {M : Type 1} → statement M
 send-at-spec =

@@ -2,9 +2,9 @@
 use mathlib.Core.Path.{refl, subst, sym}
 use Rattle.seat.specs.declared.Wish.{Wish}
 use Rattle.lines.specs.declared.Step.{Step}
-use Rattle.steps.specs.Session.{sendTold, stepTold}
-use Rattle.steps.specs.Memory.{sessionIn, Walks}
-use Rattle.steps.proofs.Walking.{unknown-walks}
+use Rattle.steps.specs.Session.{send_told, step_told}
+use Rattle.steps.specs.Memory.{session_in, Walks}
+use Rattle.steps.proofs.Walking.{unknown_walks}
 use borrow.Author.Rules.{rules}
 use Rattle.steps.proofs.walk.walk_step.Statement.{statement}
 use Rattle.steps.proofs.walk.walk_step.Tie as tie
@@ -40,12 +40,12 @@ same_length : tie.Need-same-length
 same_length c = search rules
 
 returns : tie.Need-returns
-unfolding stepTold
+unfolding step_told
 returns c = let done = c.before.before in
     let met = done.before.before.before.before in
     let a = met.before.before.before.before.args in
-    subst (λ (step : Step). Walks (stepTold (sessionIn a.walk a.shelves.now a.packets.now) step) done.send.result a.shelves.now done.send.new.1.1.1.0)
-    (sym met.step.given.1) (subst (λ (wish : Wish). Walks (sendTold (sessionIn a.walk a.shelves.now a.packets.now) met.step.given.0.0 wish) done.send.result a.shelves.now done.send.new.1.1.1.0) done.before.before.wish-of.ensures (done.send.ensures a.shelves.now))
+    subst (λ (step : Step). Walks (step_told (session_in a.walk a.shelves.now a.packets.now) step) done.send.result a.shelves.now done.send.new.1.1.1.0)
+    (sym met.step.given.1) (subst (λ (wish : Wish). Walks (send_told (session_in a.walk a.shelves.now a.packets.now) met.step.given.0.0 wish) done.send.result a.shelves.now done.send.new.1.1.1.0) done.before.before.wish-of.ensures (done.send.ensures a.shelves.now))
 
 same-length-2 : tie.Need-same-length-2
 same-length-2 c = search rules
@@ -54,31 +54,31 @@ same-length-3 : tie.Need-same-length-3
 same-length-3 c = search rules
 
 returns-2 : tie.Need-returns-2
-unfolding stepTold
+unfolding step_told
 returns-2 c = let done = c.before.before in
     let met = done.before.before.before.before in
     let a = met.before.before.before.before.args in
-    subst (λ (step : Step). Walks (stepTold (sessionIn a.walk a.shelves.now a.packets.now) step) done.arrive.result done.arrive.new.1.1.1.1.1.0 a.packets.now)
+    subst (λ (step : Step). Walks (step_told (session_in a.walk a.shelves.now a.packets.now) step) done.arrive.result done.arrive.new.1.1.1.1.1.0 a.packets.now)
     (sym met.step2.given.1) done.arrive.ensures
 
 same-length-4 : tie.Need-same-length-4
 same-length-4 c = search rules
 
 returns-3 : tie.Need-returns-3
-unfolding stepTold
+unfolding step_told
 returns-3 c = let done = c.before.before in
     let met = done.before.before.before in
     let a = met.before.before.before.before.args in
-    subst (λ (step : Step). Walks (stepTold (sessionIn a.walk a.shelves.now a.packets.now) step) done.release.result done.release.new.1.1.0 a.packets.now)
+    subst (λ (step : Step). Walks (step_told (session_in a.walk a.shelves.now a.packets.now) step) done.release.result done.release.new.1.1.0 a.packets.now)
     (sym met.step3.given.1) (done.release.ensures a.packets.now)
 
 returns-4 : tie.Need-returns-4
-unfolding stepTold
+unfolding step_told
 returns-4 c = let met = c.before in
     let start = met.before.before.before.before in
     let a = start.args in
-    subst (λ (step : Step). Walks (stepTold (sessionIn a.walk a.shelves.now a.packets.now) step) c.unknown.result a.shelves.now a.packets.now)
-    (sym met.enum_told.given.1) (unknown-walks a.walk a.shelves.now a.packets.now _ c.unknown.result start.requires.0 refl c.unknown.ensures)
+    subst (λ (step : Step). Walks (step_told (session_in a.walk a.shelves.now a.packets.now) step) c.unknown.result a.shelves.now a.packets.now)
+    (sym met.enum_told.given.1) (unknown_walks a.walk a.shelves.now a.packets.now _ c.unknown.result start.requires.0 refl c.unknown.ensures)
 
 pub walk-step-spec : {M : Type 1} → statement M
 walk-step-spec =

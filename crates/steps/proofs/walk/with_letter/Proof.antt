@@ -1,6 +1,6 @@
 -- `with_letter` meets its contract.
 use mathlib.Core.Path.{sym, ap}
-use Rattle.steps.specs.Memory.{withLetter}
+use Rattle.steps.specs.Memory.{with_letter}
 use borrow.Author.Rules.{rules}
 use Rattle.steps.proofs.walk.with_letter.Statement.{statement}
 use Rattle.steps.proofs.walk.with_letter.Tie as tie
@@ -33,7 +33,7 @@ enum-told-4 : tie.Need-enum-told-4
 enum-told-4 c = search rules
 
 returns : tie.Need-returns
-returns c = let edit = c.before.before.before in ap (withLetter edit.before.before.args.walk) (sym edit.answer.given.1)
+returns c = let edit = c.before.before.before in ap (with_letter edit.before.before.args.walk) (sym edit.answer.given.1)
 
 returns-2 : tie.Need-returns-2
 returns-2 c = search rules

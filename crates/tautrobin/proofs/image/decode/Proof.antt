@@ -1,6 +1,6 @@
 -- `decode` meets its contract.
 use native.Mathlib.Omega.{arith}
-use Rattle.tautrobin.proofs.ImageParts.{decoded-is}
+use Rattle.tautrobin.proofs.ImageParts.{decoded_is}
 use borrow.Author.Rules.{rules}
 use Rattle.tautrobin.proofs.image.decode.Statement.{statement}
 use Rattle.tautrobin.proofs.image.decode.Tie as tie
@@ -34,8 +34,8 @@ returns c = let runs = c.before in
     let barriers = runs.before in
     let pasts = barriers.before in
     let first = pasts.before.shared-slice-known3.given 0 in (
-      decoded-is _ _ _ _ _ pasts.fields.ensures barriers.fields2.ensures runs.fields3.ensures c.wide-fields.ensures,
-      record { seats-low = omega arith; seats-high = omega (arith, first); own-low = omega arith; own-high = omega arith },
+      decoded_is _ _ _ _ _ pasts.fields.ensures barriers.fields2.ensures runs.fields3.ensures c.wide-fields.ensures,
+      record { seats_low = omega arith; seats_high = omega (arith, first); own_low = omega arith; own_high = omega arith },
     )
 
 pub decode-spec : {M : Type 1} → statement M

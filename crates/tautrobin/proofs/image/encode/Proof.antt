@@ -1,5 +1,5 @@
 -- `encode` meets its contract: the five parts, one after the other.
-use Rattle.tautrobin.proofs.ImageParts.{Long, five-parts}
+use Rattle.tautrobin.proofs.ImageParts.{Long, five_parts}
 use borrow.Author.Rules.{rules}
 use Rattle.tautrobin.proofs.image.encode.Statement.{statement}
 use Rattle.tautrobin.proofs.image.encode.Tie as tie
@@ -32,7 +32,7 @@ returns c = let aheads = c.before.before in
     let pasts = barriers.before.before.before.before in
     let numbers = pasts.before.before.before.before in
     let start = numbers.before.before.before.before.before.before.before in
-    five-parts start.args.seat (long start) start.args.image.now _ _ _ _ _ start.requires.0 numbers.put-numbers.ensures pasts.put-fields.ensures barriers.put-fields2.ensures runs.put-fields3.ensures
+    five_parts start.args.seat (long start) start.args.image.now _ _ _ _ _ start.requires.0 numbers.put-numbers.ensures pasts.put-fields.ensures barriers.put-fields2.ensures runs.put-fields3.ensures
     aheads.put-wide-fields.ensures
 
 pub encode-spec : {M : Type 1} → statement M

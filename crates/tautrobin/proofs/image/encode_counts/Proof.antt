@@ -3,7 +3,7 @@ use mathlib.Core.Path.{◌≡◌}
 use native.Mathlib.Omega.{arith}
 use lib.ListN.{length}
 use Rattle.vectors.specs.Bytes.{Bytes}
-use Rattle.tautrobin.proofs.ImageRoundTrip.{counts-written}
+use Rattle.tautrobin.proofs.ImageRoundTrip.{counts_written}
 use borrow.Author.Rules.{rules}
 use Rattle.tautrobin.proofs.image.encode_counts.Statement.{statement}
 use Rattle.tautrobin.proofs.image.encode_counts.Tie as tie
@@ -33,7 +33,7 @@ returns c = let barriers = c.before.before in
     let pasts = barriers.before.before.before.before in
     let known = pasts.before.before.before.before in
     let start = known.before in
-    counts-written start.args.image.now start.requires.0 (bytes known) start.args.seat start.requires.1 (long-past start) (long-barrier start) _ _ pasts.put-fields.ensures barriers.put-fields2.ensures
+    counts_written start.args.image.now start.requires.0 (bytes known) start.args.seat start.requires.1 (long-past start) (long-barrier start) _ _ pasts.put-fields.ensures barriers.put-fields2.ensures
 
 pub encode-counts-spec : {M : Type 1} → statement M
 encode-counts-spec =

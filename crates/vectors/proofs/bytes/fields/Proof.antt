@@ -2,7 +2,7 @@
 use native.Mathlib.Omega.{arith}
 use Prim.Native.Nat.{◌+◌, ◌*◌, ◌-◌}
 use Rattle.vectors.specs.Bytes.{number_at}
-use Rattle.vectors.proofs.Vector.{Filled, filled_none, filled_more, filled-all}
+use Rattle.vectors.proofs.Vector.{Filled, filled_none, filled_more, filled_all}
 use borrow.Author.Rules.{rules}
 use Rattle.vectors.proofs.bytes.fields.Statement.{statement}
 use Rattle.vectors.proofs.bytes.fields.Tie as tie
@@ -41,7 +41,7 @@ loop-again : tie.Need-loop-preserved invariant-loop decreases-loop
 loop-again c = let turn = c.before.before in filled_more _ _ _ _ _ (omega arith) turn.loop.invariant c.before.loop-test.true (rw c.field.ensures)
 
 returns : tie.Need-returns invariant-loop decreases-loop
-returns c = filled-all _ _ _ _ c.before.loop.invariant c.loop-test.false
+returns c = filled_all _ _ _ _ c.before.loop.invariant c.loop-test.false
 
 pub fields-spec : {M : Type 1} → statement M
 fields-spec =

@@ -4,7 +4,7 @@ use mathlib.Core.Path.{◌≡◌, refl}
 use lib.ListN.{length, take}
 use lib.Seq.{take-length, length-take-le}
 use native.Mathlib.Omega.{arith}
-use Rattle.vectors.proofs.Numbers.{bytes-more, Put, put-none, put-more, put_all}
+use Rattle.vectors.proofs.Numbers.{bytes_more, Put, put_none, put_more, put_all}
 use borrow.Author.Rules.{rules}
 use Rattle.vectors.proofs.bytes.put_bytes.Statement.{statement}
 use Rattle.vectors.proofs.bytes.put_bytes.Tie as tie
@@ -16,7 +16,7 @@ abbrev decreases-loop : tie.decreases-loop
 decreases-loop out₀ i s k₀ k-end out k = length s - k
 
 loop-holds : tie.Need-loop-init invariant-loop decreases-loop
-loop-holds c = put-none _ _ _ _ refl
+loop-holds c = put_none _ _ _ _ refl
 
 shared-slice-read-out : tie.Need-shared-slice-read-out invariant-loop decreases-loop
 shared-slice-read-out c = search rules
@@ -38,7 +38,7 @@ loop-again c = let turn = c.before in
     let at = turn.before in
     let s = at.before.args.s.now in
     let so_far : length (take at.loop.k s) ≡ at.loop.k = length-take-le at.loop.k s (omega arith) in
-    put-more _ _ _ _ _ _ _ _ _ at.loop.invariant turn.loop-test.true (bytes-more s at.loop.k turn.loop-test.true) (omega arith) refl
+    put_more _ _ _ _ _ _ _ _ _ at.loop.invariant turn.loop-test.true (bytes_more s at.loop.k turn.loop-test.true) (omega arith) refl
 
 same_length : tie.Need-same-length invariant-loop decreases-loop
 same_length c = search rules

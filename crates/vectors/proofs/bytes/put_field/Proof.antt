@@ -1,6 +1,6 @@
 -- `put_field` meets its contract.
 use Rattle.vectors.specs.Turned.{turned}
-use Rattle.vectors.proofs.Turned.{two-turn, written_back}
+use Rattle.vectors.proofs.Turned.{two_turn, written_back}
 use borrow.Author.Rules.{rules}
 use Rattle.vectors.proofs.bytes.put_field.Statement.{statement}
 use Rattle.vectors.proofs.bytes.put_field.Tie as tie
@@ -15,7 +15,7 @@ same_length : tie.Need-same-length
 same_length c = search rules
 
 returns : tie.Need-returns
-returns c = written_back 2 turned two-turn _ _ _ _ _ (search rules) c.before.before.before.turn.ensures c.before.before.put-low-first.ensures
+returns c = written_back 2 turned two_turn _ _ _ _ _ (search rules) c.before.before.before.turn.ensures c.before.before.put-low-first.ensures
 
 pub put-field-spec : {M : Type 1} → statement M
 put-field-spec = tie.close (tie.spec turn-requires put-low-first-requires same_length returns)

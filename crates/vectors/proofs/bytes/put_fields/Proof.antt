@@ -4,7 +4,7 @@ use mathlib.Core.Path.{◌≡◌, refl}
 use lib.ListN.{length, take}
 use native.Mathlib.Omega.{arith}
 use Rattle.vectors.specs.Bytes.{fields_of}
-use Rattle.vectors.proofs.Numbers.{length_fields, fields-more, Put, put-none, put-more, put_all}
+use Rattle.vectors.proofs.Numbers.{length_fields, fields_more, Put, put_none, put_more, put_all}
 use borrow.Author.Rules.{rules}
 use Rattle.vectors.proofs.bytes.put_fields.Statement.{statement}
 use Rattle.vectors.proofs.bytes.put_fields.Tie as tie
@@ -17,7 +17,7 @@ decreases-loop out₀ i n v k₀ out k = n - k
 
 loop-holds : tie.Need-loop-init invariant-loop decreases-loop
 unfolding fields_of
-loop-holds c = put-none _ _ _ _ refl
+loop-holds c = put_none _ _ _ _ refl
 
 mul-put-field : tie.Need-overflow-mul-put-field invariant-loop decreases-loop
 mul-put-field c = search rules
@@ -47,7 +47,7 @@ loop-again c = let put = c.before.before in
     let a = at.before.before.args in
     let long : length a.t4 ≡ 16 = search rules in
     let so_far : length (fields_of 2 (take at.loop.k a.t4)) ≡ 2 * at.loop.k = length_fields 2 at.loop.k a.t4 (omega arith) in
-    put-more _ _ _ _ _ _ _ _ _ at.loop.invariant turn.loop-test.true (fields-more 2 a.t4 at.loop.k (omega arith)) (omega arith) put.put-field.ensures
+    put_more _ _ _ _ _ _ _ _ _ at.loop.invariant turn.loop-test.true (fields_more 2 a.t4 at.loop.k (omega arith)) (omega arith) put.put-field.ensures
 
 same_length : tie.Need-same-length invariant-loop decreases-loop
 same_length c = search rules

@@ -1,6 +1,6 @@
 -- `put_wide_field` meets its contract.
-use Rattle.vectors.specs.Turned.{turnedEight}
-use Rattle.vectors.proofs.Turned.{eight-turn, written_back}
+use Rattle.vectors.specs.Turned.{turned_eight}
+use Rattle.vectors.proofs.Turned.{eight_turn, written_back}
 use borrow.Author.Rules.{rules}
 use Rattle.vectors.proofs.bytes.put_wide_field.Statement.{statement}
 use Rattle.vectors.proofs.bytes.put_wide_field.Tie as tie
@@ -15,7 +15,7 @@ same_length : tie.Need-same-length
 same_length c = search rules
 
 returns : tie.Need-returns
-returns c = written_back 8 turnedEight eight-turn _ _ _ _ _ (search rules) c.before.before.before.turn-eight.ensures c.before.before.put-low-first-eight.ensures
+returns c = written_back 8 turned_eight eight_turn _ _ _ _ _ (search rules) c.before.before.before.turn-eight.ensures c.before.before.put-low-first-eight.ensures
 
 pub put-wide-field-spec : {M : Type 1} → statement M
 put-wide-field-spec =

@@ -1,7 +1,7 @@
 -- `low_first` meets its contract.
 use mathlib.Core.Path.{◌∙◌}
 use native.Mathlib.Omega.{arith}
-use Rattle.vectors.proofs.Turned.{one-turn, one_byte, read-turned}
+use Rattle.vectors.proofs.Turned.{one_turn, one_byte, read_turned}
 use borrow.Author.Rules.{rules}
 use Rattle.vectors.proofs.turning.low_first.Statement.{statement}
 use Rattle.vectors.proofs.turning.low_first.Tie as tie
@@ -29,7 +29,7 @@ add-result c = search rules
 
 returns : tie.Need-returns
 returns c =
-    read-turned 1 (λ x. x) one-turn _ _ _ _ (omega arith) (c.before.before.wide.ensures.0 ∙ one_byte _ _) (c.wide2.ensures.0 ∙ one_byte _ _)
+    read_turned 1 (λ x. x) one_turn _ _ _ _ (omega arith) (c.before.before.wide.ensures.0 ∙ one_byte _ _) (c.wide2.ensures.0 ∙ one_byte _ _)
 
 pub low-first-spec : {M : Type 1} → statement M
 low-first-spec =

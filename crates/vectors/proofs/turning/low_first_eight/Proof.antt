@@ -1,6 +1,6 @@
 -- `low_first_eight` meets its contract.
-use Rattle.vectors.specs.Turned.{turnedFour}
-use Rattle.vectors.proofs.Turned.{four-turn, read-turned}
+use Rattle.vectors.specs.Turned.{turned_four}
+use Rattle.vectors.proofs.Turned.{four_turn, read_turned}
 use borrow.Author.Rules.{rules}
 use Rattle.vectors.proofs.turning.low_first_eight.Statement.{statement}
 use Rattle.vectors.proofs.turning.low_first_eight.Tie as tie
@@ -27,7 +27,7 @@ add-result : tie.Need-overflow-add-result
 add-result c = search rules
 
 returns : tie.Need-returns
-returns c = read-turned 4 turnedFour four-turn _ _ _ _ (search rules) c.before.low-first-four.ensures c.low-first-four2.ensures
+returns c = read_turned 4 turned_four four_turn _ _ _ _ (search rules) c.before.low-first-four.ensures c.low-first-four2.ensures
 
 pub low-first-eight-spec : {M : Type 1} → statement M
 low-first-eight-spec =

@@ -1,6 +1,6 @@
 -- `low_first_four` meets its contract.
 use Rattle.vectors.specs.Turned.{turned}
-use Rattle.vectors.proofs.Turned.{two-turn, read-turned}
+use Rattle.vectors.proofs.Turned.{two_turn, read_turned}
 use borrow.Author.Rules.{rules}
 use Rattle.vectors.proofs.turning.low_first_four.Statement.{statement}
 use Rattle.vectors.proofs.turning.low_first_four.Tie as tie
@@ -27,7 +27,7 @@ add-result : tie.Need-overflow-add-result
 add-result c = search rules
 
 returns : tie.Need-returns
-returns c = read-turned 2 turned two-turn _ _ _ _ (search rules) c.before.low_first.ensures c.low-first2.ensures
+returns c = read_turned 2 turned two_turn _ _ _ _ (search rules) c.before.low_first.ensures c.low-first2.ensures
 
 pub low-first-four-spec : {M : Type 1} → statement M
 low-first-four-spec =

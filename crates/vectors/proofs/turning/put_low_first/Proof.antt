@@ -1,6 +1,6 @@
 -- `put_low_first` meets its contract.
 use native.Mathlib.Numerals.{add-one}
-use Rattle.vectors.proofs.Turned.{two-written}
+use Rattle.vectors.proofs.Turned.{two_written}
 use lib.ListN.{length-set}
 use native.Mathlib.Omega.{arith}
 use borrow.Author.Rules.{rules}
@@ -26,7 +26,7 @@ same_length : tie.Need-same-length
 same_length c = search rules
 
 returns : tie.Need-returns
-returns c = rw (two-written c.args.x (search rules), add-one)
+returns c = rw (two_written c.args.x (search rules), add-one)
 
 pub put-low-first-spec : {M : Type 1} → statement M
 put-low-first-spec =

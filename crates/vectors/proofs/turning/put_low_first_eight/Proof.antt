@@ -1,6 +1,6 @@
 -- `put_low_first_eight` meets its contract.
-use Rattle.vectors.specs.Turned.{turnedFour}
-use Rattle.vectors.proofs.Turned.{four-turn, written-turned}
+use Rattle.vectors.specs.Turned.{turned_four}
+use Rattle.vectors.proofs.Turned.{four_turn, written_turned}
 use borrow.Author.Rules.{rules}
 use Rattle.vectors.proofs.turning.put_low_first_eight.Statement.{statement}
 use Rattle.vectors.proofs.turning.put_low_first_eight.Tie as tie
@@ -24,7 +24,7 @@ same_length : tie.Need-same-length
 same_length c = search rules
 
 returns : tie.Need-returns
-returns c = written-turned 4 turnedFour four-turn _ _ _ _ _ (search rules) c.before.before.before.before.before.before.put-low-first-four.ensures c.before.before.put-low-first-four2.ensures
+returns c = written_turned 4 turned_four four_turn _ _ _ _ _ (search rules) c.before.before.before.before.before.before.put-low-first-four.ensures c.before.before.put-low-first-four2.ensures
 
 pub put-low-first-eight-spec : {M : Type 1} → statement M
 put-low-first-eight-spec =

@@ -1,6 +1,6 @@
 -- `put_low_first_four` meets its contract.
 use Rattle.vectors.specs.Turned.{turned}
-use Rattle.vectors.proofs.Turned.{two-turn, written-turned}
+use Rattle.vectors.proofs.Turned.{two_turn, written_turned}
 use borrow.Author.Rules.{rules}
 use Rattle.vectors.proofs.turning.put_low_first_four.Statement.{statement}
 use Rattle.vectors.proofs.turning.put_low_first_four.Tie as tie
@@ -24,7 +24,7 @@ same_length : tie.Need-same-length
 same_length c = search rules
 
 returns : tie.Need-returns
-returns c = written-turned 2 turned two-turn _ _ _ _ _ (search rules) c.before.before.before.before.before.before.put-low-first.ensures c.before.before.put-low-first2.ensures
+returns c = written_turned 2 turned two_turn _ _ _ _ _ (search rules) c.before.before.before.before.before.before.put-low-first.ensures c.before.before.put-low-first2.ensures
 
 pub put-low-first-four-spec : {M : Type 1} → statement M
 put-low-first-four-spec =

@@ -1,6 +1,6 @@
 -- `turn` meets its contract.
 use mathlib.Core.Path.{refl}
-use Rattle.vectors.specs.Turned.{turnedBy}
+use Rattle.vectors.specs.Turned.{turned_by}
 use borrow.Author.Rules.{rules}
 use Rattle.vectors.proofs.turning.turn.Statement.{statement}
 use Rattle.vectors.proofs.turning.turn.Tie as tie
@@ -12,7 +12,7 @@ add-result : tie.Need-overflow-add-result
 add-result c = search rules
 
 returns : tie.Need-returns
-unfolding turnedBy
+unfolding turned_by
 returns c = refl
 
 pub turn_spec : {M : Type 1} → statement M

@@ -1,7 +1,7 @@
 -- `turn_eight` meets its contract.
 use Prim.Native.Nat.{ℕ, ◌+◌, ◌*◌}
 use mathlib.Core.Path.{ap₂}
-use Rattle.vectors.specs.Turned.{turnedBy}
+use Rattle.vectors.specs.Turned.{turned_by}
 use borrow.Author.Rules.{rules}
 use Rattle.vectors.proofs.turning.turn_eight.Statement.{statement}
 use Rattle.vectors.proofs.turning.turn_eight.Tie as tie
@@ -31,7 +31,7 @@ add-result : tie.Need-overflow-add-result
 add-result c = search rules
 
 returns : tie.Need-returns
-unfolding turnedBy
+unfolding turned_by
 returns c = ap₂ (λ (a b : ℕ). a * 4294967296 + b) c.before.turn-four.ensures c.turn-four2.ensures
 
 pub turn-eight-spec : {M : Type 1} → statement M

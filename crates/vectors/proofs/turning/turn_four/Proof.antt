@@ -1,7 +1,7 @@
 -- `turn_four` meets its contract.
 use Prim.Native.Nat.{ℕ, ◌+◌, ◌*◌}
 use mathlib.Core.Path.{ap₂}
-use Rattle.vectors.specs.Turned.{turnedBy}
+use Rattle.vectors.specs.Turned.{turned_by}
 use borrow.Author.Rules.{rules}
 use Rattle.vectors.proofs.turning.turn_four.Statement.{statement}
 use Rattle.vectors.proofs.turning.turn_four.Tie as tie
@@ -31,7 +31,7 @@ add-result : tie.Need-overflow-add-result
 add-result c = search rules
 
 returns : tie.Need-returns
-unfolding turnedBy
+unfolding turned_by
 returns c = ap₂ (λ (a b : ℕ). a * 65536 + b) c.before.turn.ensures c.turn2.ensures
 
 pub turn-four-spec : {M : Type 1} → statement M
