@@ -62,7 +62,7 @@ def files(ends):
 def declared():
     names = set()
     for path in files(".antt"):
-        if os.path.basename(path) in FUNCTION_FILES:
+        if os.path.basename(path) in FUNCTION_FILES and "/proofs/" in path:
             continue
         for line in open(path):
             found = DECLARED.match(line.split("--")[0])

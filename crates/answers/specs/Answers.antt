@@ -9,30 +9,30 @@ use Rattle.answers.specs.declared.Answer.{Answer}
 use Rattle.answers.specs.declared.Answer.TheVariants.{Opened, Done, Shelved, NothingReady, Refused}
 
 -- A seat and an edit by their numbers.
-abbrev pub seatNo : ℕ → SeatNo
-seatNo k = record { 0 = k }
+abbrev pub seat_no : ℕ → SeatNo
+seat_no k = record { 0 = k }
 
-abbrev pub editNo : ℕ → EditNo
-editNo s = record { 0 = s }
+abbrev pub edit_no : ℕ → EditNo
+edit_no s = record { 0 = s }
 
 -- The number of each refusal.
-abbrev pub refusalNumber : Refusal → ℕ
-refusalNumber NotSound = 10
-refusalNumber BodyTooLong = 11
-refusalNumber CountFull = 12
-refusalNumber OutputTooShort = 13
-refusalNumber NotWellFormed = 14
-refusalNumber OtherSession = 15
-refusalNumber AboveOwnCount = 16
-refusalNumber Repeated = 17
-refusalNumber TooFarAhead = 18
-refusalNumber ShelfFull = 19
-refusalNumber NoSuchSeat = 20
-refusalNumber BarrierAbovePast = 23
+abbrev pub refusal_number : Refusal → ℕ
+refusal_number NotSound = 10
+refusal_number BodyTooLong = 11
+refusal_number CountFull = 12
+refusal_number OutputTooShort = 13
+refusal_number NotWellFormed = 14
+refusal_number OtherSession = 15
+refusal_number AboveOwnCount = 16
+refusal_number Repeated = 17
+refusal_number TooFarAhead = 18
+refusal_number ShelfFull = 19
+refusal_number NoSuchSeat = 20
+refusal_number BarrierAbovePast = 23
 
 -- An answer that reports three zeros.
 abbrev pub bare : ℕ → Report
-bare answer = record { answer = answer; edit = record { sender = seatNo 0; number = editNo 0; length = 0 } }
+bare answer = record { answer = answer; edit = record { sender = seat_no 0; number = edit_no 0; length = 0 } }
 
 -- The number of each answer, with sender, sequence number and length: those of the edit where there is one.
 abbrev pub report : Answer → Report
@@ -40,7 +40,7 @@ report Opened = bare 0
 report (Done edit) = record { answer = 0; edit = edit }
 report Shelved = bare 1
 report NothingReady = bare 2
-report (Refused refusal) = bare (refusalNumber refusal)
+report (Refused refusal) = bare (refusal_number refusal)
 
 -- A call's refusals, in the order in which they are tested: the first that applies is the answer, else the call is done.
 unfoldable pub first_of : List (Refusal × Bool) → Answer → Answer

@@ -1,6 +1,6 @@
 // What a call answers, and the numbers of seats and edits that answers speak of (document 01, "Answer numbers").
 ghost use Rattle.std.specs.Prelude.{◌≡◌};
-ghost use Rattle.answers.specs.Answers.{refusalNumber, bare, report};
+ghost use Rattle.answers.specs.Answers.{refusal_number, bare, report};
 
 // A seat's number, 1 to n.
 #[derive(Drop)]
@@ -54,7 +54,7 @@ pub struct Report {
 impl Refusal {
     // Document 01's number.
     pub fn number(self) -> u8
-        ensures { result ≡ refusalNumber self }
+        ensures { result ≡ refusal_number self }
     {
         match self {
             Refusal::NotSound => 10,

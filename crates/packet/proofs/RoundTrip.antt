@@ -8,7 +8,7 @@ use native.Mathlib.Omega.{arith}
 use lib.ListN.{length, get_or, take, drop, length-append, length-drop, take-append-drop}
 use lib.Seq.{get_or-take, length-take-le, take_at, drop_at, drop-drop, take-add}
 use borrow.Author.Tests.{eq-eqb, ne_eqb}
-use Rattle.answers.specs.Answers.{editNo}
+use Rattle.answers.specs.Answers.{edit_no}
 use Rattle.answers.specs.declared.Edit.{Edit}
 use Rattle.answers.specs.declared.Answer.TheVariants.{Done}
 use Rattle.vectors.specs.Vectors.{entry, Counts}
@@ -224,13 +224,13 @@ module _ (packet : List ℕ) (bytes : Bytes packet) (z : first_bad_point packet 
 
   again_done : (out : List ℕ) → length packet ≤ length out
       → write_answer (kind_of packet) (header_of packet) (past_of packet) (barrier_of packet) (body_of packet) out
-      ≡ Done (record { sender = sender_of packet; number = editNo (entry (past_of packet) (sender_of packet)); length = length packet })
+      ≡ Done (record { sender = sender_of packet; number = edit_no (entry (past_of packet) (sender_of packet)); length = length packet })
   again_done out room =
       let h = head_holds in
       let l = body_long in
       let whole : packet_length (seats_of packet) (length (body_of packet)) ≡ length packet = omega arith in
       answer_0 (kind_of packet) (header_of packet) (past_of packet) (barrier_of packet) (body_of packet) out (omega arith) writable_again (omega arith)
-      ∙ ap (λ (long : ℕ). Done (record { sender = sender_of packet; number = editNo (entry (past_of packet) (sender_of packet)); length = long })) whole
+      ∙ ap (λ (long : ℕ). Done (record { sender = sender_of packet; number = edit_no (entry (past_of packet) (sender_of packet)); length = long })) whole
 
   again_output : (out : List ℕ) → length packet ≤ length out
       → write_output (kind_of packet) (header_of packet) (past_of packet) (barrier_of packet) (body_of packet) out ≡ at_start packet out
@@ -241,7 +241,7 @@ module _ (packet : List ℕ) (bytes : Bytes packet) (z : first_bad_point packet 
 -- A packet that was read and is written again, into an output with room for it, is the same bytes, and that write is answered 0.
 pub record WritesAgain (packet out : List ℕ) (heading : Heading) : Type 0 where
   pub answered : write_answer heading.kind (header_in heading) (read_of packet).past (read_of packet).barrier (body_of packet) out
-      ≡ Done (record { sender = heading.sender; number = editNo (entry (read_of packet).past heading.sender); length = length packet })
+      ≡ Done (record { sender = heading.sender; number = edit_no (entry (read_of packet).past heading.sender); length = length packet })
   pub output : write_output heading.kind (header_in heading) (read_of packet).past (read_of packet).barrier (body_of packet) out ≡ at_start packet out
 
 pub read_writes_again : (packet out : List ℕ) (heading : Heading) → Bytes packet → length packet ≤ length out → (read_of packet).answer ≡ Packet heading

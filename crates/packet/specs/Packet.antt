@@ -1,7 +1,7 @@
 -- The packet: its fields, bit-packed with the most significant first, and the eight points of well-formedness in
 -- document 01's order. A packet is the list of its bytes.
 use Rattle.std.specs.Prelude.{ℕ, suc, ◌+◌, ◌*◌, ◌-◌, ◌/◌, ◌%◌, Bool, true, false, cond, ◌&&◌, List, [], ◌∷◌, ◌++◌, leb, ltb, eqb, length, get_or, set}
-use Rattle.answers.specs.Answers.{seatNo}
+use Rattle.answers.specs.Answers.{seat_no}
 use Rattle.answers.specs.declared.SeatNo.{SeatNo}
 use Rattle.vectors.specs.Vectors.{vector, entry, within, same}
 use Rattle.vectors.specs.Bytes.{number_at}
@@ -23,7 +23,7 @@ abbrev pub seats_of : List ℕ → ℕ
 seats_of packet = get_or packet 0 0 % 16 + 1
 
 abbrev pub sender_of : List ℕ → SeatNo
-sender_of packet = seatNo (get_or packet 1 0 / 16 + 1)
+sender_of packet = seat_no (get_or packet 1 0 / 16 + 1)
 
 abbrev pub kind_bit : ℕ → Kind
 kind_bit byte = cond (eqb (byte / 8 % 2) 1) Causal Ordinary

@@ -1,6 +1,6 @@
 -- What reading answers, and the body.
 use Rattle.std.specs.Prelude.{ℕ, cond, List, [], drop}
-use Rattle.answers.specs.Answers.{refusalNumber}
+use Rattle.answers.specs.Answers.{refusal_number}
 use Rattle.answers.specs.declared.Refusal.TheVariants.{NotWellFormed}
 use Rattle.vectors.specs.Vectors.{zeros}
 use Rattle.packet.specs.Packet.{seats_of, sender_of, kind_of, past_of, barrier_of, body_at, well_formed}
@@ -39,5 +39,5 @@ body_of packet = cond (well_formed packet) (drop (body_at (seats_of packet)) pac
 
 -- Document 01's number of each case.
 abbrev pub read_number : ReadAnswer → ℕ
-read_number Refused = refusalNumber NotWellFormed
+read_number Refused = refusal_number NotWellFormed
 read_number (Packet heading) = 0

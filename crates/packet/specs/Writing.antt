@@ -1,6 +1,6 @@
 -- What writing answers, and what it leaves in the output.
 use Rattle.std.specs.Prelude.{ℕ, ◌+◌, ◌*◌, ◌-◌, ◌≡◌, Bool, not, ◌&&◌, List, [], ◌∷◌, ◌++◌, leb, ltb, eqb, length, take, drop}
-use Rattle.answers.specs.Answers.{editNo, first_of}
+use Rattle.answers.specs.Answers.{edit_no, first_of}
 use Rattle.answers.specs.declared.Edit.{Edit}
 use Rattle.answers.specs.declared.Refusal.{Refusal}
 use Rattle.answers.specs.declared.Refusal.TheVariants.{BodyTooLong, NotWellFormed, OutputTooShort}
@@ -49,7 +49,7 @@ write_refusals kind header past barrier body out =
 -- The edit that was written, with its packet's length.
 abbrev pub edit_of : Header → List ℕ → List ℕ → Edit
 edit_of header past body =
-    record { sender = header.sender; number = editNo (entry past header.sender); length = packet_length header.n (length body) }
+    record { sender = header.sender; number = edit_no (entry past header.sender); length = packet_length header.n (length body) }
 
 unfoldable pub write_answer : Kind → Header → List ℕ → List ℕ → List ℕ → List ℕ → Answer
 write_answer kind header past barrier body out =

@@ -2,7 +2,7 @@
 use Prim.Native.Nat.{ℕ}
 use mathlib.Core.Path.{◌≡◌, sym, ap, subst, ◌∙◌}
 use mathlib.Core.List.{List, ◌∷◌}
-use Rattle.answers.specs.Answers.{refusalNumber}
+use Rattle.answers.specs.Answers.{refusal_number}
 use Rattle.answers.specs.declared.Edit as answers
 use Rattle.answers.specs.declared.Answer.{Answer}
 use Rattle.answers.specs.declared.Answer.TheVariants.{Done, Refused}
@@ -75,7 +75,7 @@ module _ {n : ℕ} {places : ℕ → Place} {letters : List Letter} {trace : Tra
         }
     arrival_step (arrival.refused refusal) next left is-next is-left sound =
         subst (λ (t : Trace). Goes n (place_with next left) letters t)
-        (sym (refused_arrival_tells_nothing (refusalNumber refusal) (refusals_are_from_10 refusal) j (reported (Refused refusal)) letter.edit trace))
+        (sym (refused_arrival_tells_nothing (refusal_number refusal) (refusals_are_from_10 refusal) j (reported (Refused refusal)) letter.edit trace))
         (stays so_far j seated next left is-next is-left)
 
     -- One arrival more.

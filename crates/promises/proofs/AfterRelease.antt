@@ -2,7 +2,7 @@
 use Prim.Native.Nat.{ℕ}
 use mathlib.Core.Path.{◌≡◌, sym, ap, subst, ◌∙◌}
 use mathlib.Core.List.{List, ◌∷◌}
-use Rattle.answers.specs.Answers.{refusalNumber}
+use Rattle.answers.specs.Answers.{refusal_number}
 use Rattle.answers.specs.declared.Edit as answers
 use Rattle.answers.specs.declared.Answer.{Answer}
 use Rattle.answers.specs.declared.Answer.TheVariants.{Done, Refused}
@@ -74,7 +74,7 @@ module _ {n : ℕ} {places : ℕ → Place} {letters : List Letter} {trace : Tra
       }
   release_step out (release.refused refusal) next left is-next is-left sound =
       subst (λ (t : Trace). Goes n (place_with next left) letters t)
-      (sym (refused_release_tells_nothing (refusalNumber refusal) (refusals_are_from_10 refusal) j (reported (Refused refusal)) trace))
+      (sym (refused_release_tells_nothing (refusal_number refusal) (refusals_are_from_10 refusal) j (reported (Refused refusal)) trace))
       (stays so_far j seated next left is-next is-left)
 
   -- One release more.

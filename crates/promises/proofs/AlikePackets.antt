@@ -7,7 +7,7 @@ use native.Mathlib.Omega.{arith}
 use lib.Dec.{leb, eqb}
 use lib.ListN.{length, get_or}
 use lib.Seq.{ext_get_or}
-use Rattle.answers.specs.Answers.{seatNo}
+use Rattle.answers.specs.Answers.{seat_no}
 use Rattle.vectors.specs.Vectors.{vector}
 use Rattle.vectors.specs.Bytes.{number_at}
 use Rattle.vectors.proofs.Vector.{length_vector, vector_below, vector_above}
@@ -45,7 +45,7 @@ point_of len first second third past barrier =
     ∷ leb third 200
     ∷ eqb len (packet_length (first % 16 + 1) third)
     ∷ [])
-    ++ vector_tests (kind_bit second) (seatNo (second / 16 + 1)) past barrier)
+    ++ vector_tests (kind_bit second) (seat_no (second / 16 + 1)) past barrier)
 
 point_by_parts : (packet : List ℕ) → first_bad_point packet ≡ point_of (length packet) (get_or packet 0 0) (get_or packet 1 0) (get_or packet 2 0) (past_of packet) (barrier_of packet)
 unfolding first_bad_point head_tests
@@ -59,7 +59,7 @@ module _ (one other : List ℕ) (alike : Alike one other) where
   same_seats = ap (λ (b : ℕ). b % 16 + 1) (byte 0 (omega arith))
 
   pub same_sender : sender_of one ≡ sender_of other
-  same_sender = ap (λ (b : ℕ). seatNo (b / 16 + 1)) (byte 1 (omega arith))
+  same_sender = ap (λ (b : ℕ). seat_no (b / 16 + 1)) (byte 1 (omega arith))
 
   pub same_kind : kind_of one ≡ kind_of other
   same_kind = ap kind_bit (byte 1 (omega arith))

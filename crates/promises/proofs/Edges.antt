@@ -5,7 +5,7 @@ use mathlib.Core.Bool.{true}
 use mathlib.Core.List.{List, []}
 use native.Mathlib.Omega.{arith}
 use lib.ListN.{length}
-use Rattle.answers.specs.Answers.{seatNo, first_of}
+use Rattle.answers.specs.Answers.{seat_no, first_of}
 use Rattle.answers.specs.declared.Refusal.TheVariants.{NotWellFormed}
 use Rattle.answers.specs.declared.Answer.TheVariants.{Refused}
 use Rattle.vectors.specs.Vectors.{all, table, vector, within, same, zero_above, maxes}
@@ -34,16 +34,16 @@ use Rattle.promises.specs.Demand1.{answer_number}
 use Rattle.promises.specs.Edges.{Edges, fresh_seat, seat_that_sent, first_sent, second_sent, arrival_number, arrival_numbers, after_arrivals, packets_numbered, one_last}
 
 opened : (shelf : List ℕ)
-    → (answer_number (open_answer 0 (seatNo 0) shelf) ≡ 20)
-    × (answer_number (open_answer 17 (seatNo 1) shelf) ≡ 20)
-    × (answer_number (open_answer 2 (seatNo 3) shelf) ≡ 20)
-    × (whole_slots shelf ≡ true → answer_number (open_answer 16 (seatNo 16) shelf) ≡ 0)
+    → (answer_number (open_answer 0 (seat_no 0) shelf) ≡ 20)
+    × (answer_number (open_answer 17 (seat_no 1) shelf) ≡ 20)
+    × (answer_number (open_answer 2 (seat_no 3) shelf) ≡ 20)
+    × (whole_slots shelf ≡ true → answer_number (open_answer 16 (seat_no 16) shelf) ≡ 0)
 unfolding in_range
 opened shelf = (
-  ap answer_number (no_such_seat_answers_20 0 (seatNo 0) shelf refl),
-  ap answer_number (no_such_seat_answers_20 17 (seatNo 1) shelf refl),
-  ap answer_number (no_such_seat_answers_20 2 (seatNo 3) shelf refl),
-  λ whole. ap answer_number (opening_answers_0 16 (seatNo 16) shelf refl whole),
+  ap answer_number (no_such_seat_answers_20 0 (seat_no 0) shelf refl),
+  ap answer_number (no_such_seat_answers_20 17 (seat_no 1) shelf refl),
+  ap answer_number (no_such_seat_answers_20 2 (seat_no 3) shelf refl),
+  λ whole. ap answer_number (opening_answers_0 16 (seat_no 16) shelf refl whole),
 )
 
 no_slots : (first : Kind) → (arrival_number (fresh_seat 2 2) (second_sent first Causal) ≡ 19) × (arrival_number (fresh_seat 2 2) (first_sent first) ≡ 0)
@@ -67,7 +67,7 @@ counts out = (
 
 fresh_is_sound : sound_state (fresh_seat 1 1) ≡ true
 unfolding in_range
-fresh_is_sound = counting_is_sound 1 (seatNo 1) refl
+fresh_is_sound = counting_is_sound 1 (seat_no 1) refl
 
 bodies : (body out : List ℕ)
     → (length body ≡ 200 → 207 ≤ length out → answer_number (send_answer (fresh_seat 1 1) body out) ≡ 0)

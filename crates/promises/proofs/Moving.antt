@@ -5,7 +5,7 @@ use mathlib.Core.Logic.{◌≢◌}
 use native.Mathlib.Decide.{ℕ_discrete}
 use native.Mathlib.Omega.{arith}
 use borrow.Author.Tests.{eq-eqb, ne_eqb}
-use Rattle.answers.specs.Answers.{refusalNumber}
+use Rattle.answers.specs.Answers.{refusal_number}
 use Rattle.answers.specs.declared.Refusal.{Refusal}
 use Rattle.answers.specs.declared.Refusal.TheVariants.{NotSound, BodyTooLong, CountFull, OutputTooShort, NotWellFormed, OtherSession, AboveOwnCount, Repeated, TooFarAhead, ShelfFull, NoSuchSeat, BarrierAbovePast}
 use Rattle.session.specs.Events.{Edit, Trace}
@@ -34,7 +34,7 @@ module _ (j : ℕ) (place : Place) (places : ℕ → Place) where
             | no away ↦ stays_elsewhere l away
           ]
 
-pub refusals_are_from_10 : (refusal : Refusal) → 10 ≤ refusalNumber refusal
+pub refusals_are_from_10 : (refusal : Refusal) → 10 ≤ refusal_number refusal
 refusals_are_from_10 NotSound = omega arith
 refusals_are_from_10 BodyTooLong = omega arith
 refusals_are_from_10 CountFull = omega arith

@@ -3,7 +3,7 @@ use Prim.Native.Nat.{ℕ}
 use mathlib.Core.Path.{refl}
 use mathlib.Core.List.{List, [], ◌∷◌, ◌++◌}
 use lib.ListN.{replicate}
-use Rattle.answers.specs.Answers.{seatNo, editNo}
+use Rattle.answers.specs.Answers.{seat_no, edit_no}
 use Rattle.answers.specs.declared.Refusal.TheVariants.{Repeated}
 use Rattle.answers.specs.declared.Answer.{Answer}
 use Rattle.answers.specs.declared.Answer.TheVariants.{Done, Shelved, NothingReady, Refused}
@@ -39,7 +39,7 @@ abbrev pub none : List ℕ
 none = counts 0 0 0
 
 abbrev pub state : ℕ → List ℕ → List ℕ → List ℕ → Seat
-state own past barrier run = record { n = 3; own = seatNo own; past = past; barrier = barrier; run = run; ahead = none }
+state own past barrier run = record { n = 3; own = seat_no own; past = past; barrier = barrier; run = run; ahead = none }
 
 unfoldable pub one_0 : Seat
 one_0 = state 1 none none none
@@ -94,7 +94,7 @@ shelf_3b = slot_of packet_2_1 ++ slot_of packet_1_2
 -- ---- the calls
 
 abbrev pub done : ℕ → ℕ → ℕ → Answer
-done sender number length = Done (record { sender = seatNo sender; number = editNo number; length = length })
+done sender number length = Done (record { sender = seat_no sender; number = edit_no number; length = length })
 
 abbrev pub gives : Seat → Answer → Stepped
 gives seat answer = record { seat = seat; answer = answer }

@@ -6,7 +6,7 @@ use mathlib.Core.List.Memᴰ
 use mathlib.Core.List.{List, []}
 use native.Mathlib.Omega.{arith}
 use lib.ListN.{length, replicate}
-use Rattle.answers.specs.Answers.{seatNo}
+use Rattle.answers.specs.Answers.{seat_no}
 use Rattle.answers.specs.declared.Answer.TheVariants.{Opened}
 use Rattle.packet.proofs.Writable.{range_holds}
 use Rattle.shelf.specs.Shelf.{whole_slots}
@@ -36,11 +36,11 @@ freshly_opened : (j : ℕ) → Seated 3 j → FreshlyOpened 3 j (start j)
 unfolding start
 freshly_opened j seated =
     let range =
-    range_holds (record { n = 3; sender = seatNo j }) (record { seats_low = omega arith; seats_high = omega arith; sender_low = seated.0; sender_high = seated.1 }) in
+    range_holds (record { n = 3; sender = seat_no j }) (record { seats_low = omega arith; seats_high = omega arith; sender_low = seated.0; sender_high = seated.1 }) in
     record {
       lent = empty;
-      stepped = record { seat = counting 3 (seatNo j); answer = Opened };
-      contract = done_open 3 (seatNo j) empty (counting 3 (seatNo j)) empty (opening_answers_0 3 (seatNo j) empty range whole) refl cleared;
+      stepped = record { seat = counting 3 (seat_no j); answer = Opened };
+      contract = done_open 3 (seat_no j) empty (counting 3 (seat_no j)) empty (opening_answers_0 3 (seat_no j) empty range whole) refl cleared;
       answered_0 = refl;
       state = refl;
     }

@@ -5,7 +5,7 @@ use mathlib.Core.Bool.{true}
 use mathlib.Core.List.{List, [], ◌∷◌}
 use native.Mathlib.Omega.{arith}
 use lib.ListN.{get_or, replicate}
-use Rattle.answers.specs.Answers.{seatNo, first_of}
+use Rattle.answers.specs.Answers.{seat_no, first_of}
 use Rattle.vectors.specs.Vectors.{entry, all, table, vector, within, same, zero_above, maxes, zeros}
 use Rattle.vectors.specs.Bytes.{number_at, bytes_of, fields_of}
 use Rattle.window.specs.Window.{bit, handed, none_above, sound_window, marked, trailing_ones, advanced, handed_over}
@@ -41,7 +41,7 @@ unfolding read_of first_bad_point head_tests vector_tests point_seven point_eigh
 good_packet_reads = refl
 
 abbrev header : Header
-header = record { n = 2; sender = seatNo 1 }
+header = record { n = 2; sender = seat_no 1 }
 
 abbrev past : List ℕ
 past = 1 ∷ replicate 15 0
@@ -52,12 +52,12 @@ writes_say : (answer_number (write_answer Ordinary header past zeros [] (replica
 unfolding write_answer write_refusals first_of writable in_range vector_tests point_seven point_eight first_failing within same all zero_above
 writes_say = (refl, refl)
 
-a_send_counts : entry (seat_after (send_answer (fresh_seat 1 1) [] (replicate 7 0)) (sent_seat (fresh_seat 1 1) Ordinary) (fresh_seat 1 1)).past (seatNo 1) ≡ 1
+a_send_counts : entry (seat_after (send_answer (fresh_seat 1 1) [] (replicate 7 0)) (sent_seat (fresh_seat 1 1) Ordinary) (fresh_seat 1 1)).past (seat_no 1) ≡ 1
 unfolding send_answer send_refusals first_of sent_seat sound_state in_range clear_above zero_above within sound_windows sound_window none_above bit all
 a_send_counts = refl
 
 -- a first packet moves run; one that waits is laid on a free slot; the first packet again is refused
-arrivals_say : (entry (after_arrival (fresh_seat 2 2) (first_sent Ordinary)).run (seatNo 1) ≡ 1)
+arrivals_say : (entry (after_arrival (fresh_seat 2 2) (first_sent Ordinary)).run (seat_no 1) ≡ 1)
     × (get_or (shelf_after (arrive_answer (fresh_seat 2 2) free_slot (second_sent Ordinary Causal)) (second_sent Ordinary Causal) free_slot) 0 0 ≡ 1)
     × (arrival_number (after_arrival (fresh_seat 2 2) (first_sent Ordinary)) (first_sent Ordinary) ≡ 17)
 unfolding arrive_answer arrive_refusals first_of sound_state in_range clear_above zero_above within sound_windows sound_window none_above bit all sound_shelf whole_slots sound_slots distinct first_bad_point head_tests vector_tests point_seven point_eight first_failing packet_of fields_of bytes_of number_at vector table same admission_refusals admitted_answer ready_answer wait_answer handed on_slots maxes body_of lowest hand_over handed_over advanced marked trailing_ones sent_seat slot_at all_zero slot_of laid free_slot
@@ -76,11 +76,11 @@ module _ (library : Library) (meets : Meets library) where
   write_is : (out : List ℕ) → written_as library Ordinary header past zeros [] out ≡ answer_number (write_answer Ordinary header past zeros [] out)
   write_is out = ap answer_number (meets.writing Ordinary header past zeros [] out).answered
 
-  opened_0 : opened_as library 16 (seatNo 16) [] ≡ 0
-  opened_0 = ap answer_number (meets.opening 16 (seatNo 16) []).answered ∙ (edges.p1 []).3 no_slots_are_whole
+  opened_0 : opened_as library 16 (seat_no 16) [] ≡ 0
+  opened_0 = ap answer_number (meets.opening 16 (seat_no 16) []).answered ∙ (edges.p1 []).3 no_slots_are_whole
 
-  opened_20 : opened_as library 0 (seatNo 0) [] ≡ 20
-  opened_20 = ap answer_number (meets.opening 0 (seatNo 0) []).answered ∙ (edges.p1 []).0
+  opened_20 : opened_as library 0 (seat_no 0) [] ≡ 20
+  opened_20 = ap answer_number (meets.opening 0 (seat_no 0) []).answered ∙ (edges.p1 []).0
 
   sent_0 : sent_as library (seat_that_sent 65534) Usual [] (replicate 7 0) ≡ 0
   sent_0 = ap answer_number (meets.sending (seat_that_sent 65534) Usual [] (replicate 7 0)).answered ∙ (edges.p7 (replicate 7 0)).0 (omega arith)
@@ -103,7 +103,7 @@ module _ (library : Library) (meets : Meets library) where
   no_refuser : RefusesEverything library → ⊥
   no_refuser (every_reading each) = omega (arith, each (from_one 1 0 []), read_is (from_one 1 0 []) ∙ good_packet_reads)
   no_refuser (every_writing each) = omega (arith, each Ordinary header past zeros [] (replicate 11 0), write_is (replicate 11 0) ∙ writes_say.0)
-  no_refuser (every_opening each) = omega (arith, each 16 (seatNo 16) [], opened_0)
+  no_refuser (every_opening each) = omega (arith, each 16 (seat_no 16) [], opened_0)
   no_refuser (every_sending each) = omega (arith, each (seat_that_sent 65534) Usual [] (replicate 7 0), sent_0)
   no_refuser (every_arrival each) = omega (arith, each (fresh_seat 2 2) (from_one 64 0 []) [], arrived_0)
   no_refuser (every_release each) = omega (arith, each (fresh_seat 2 2) (slot_of (from_one 1 0 [])) [], released_0)
@@ -120,7 +120,7 @@ module _ (library : Library) (meets : Meets library) where
         differ k 0 13 (each Ordinary header past zeros [] (replicate 11 0)) (each Ordinary header past zeros [] [])
             (write_is (replicate 11 0) ∙ writes_say.0) (write_is [] ∙ writes_say.1),
       )
-  no_fixed_answer (one_opening k each) = omega (arith, differ k 0 20 (each 16 (seatNo 16) []) (each 0 (seatNo 0) []) opened_0 opened_20)
+  no_fixed_answer (one_opening k each) = omega (arith, differ k 0 20 (each 16 (seat_no 16) []) (each 0 (seat_no 0) []) opened_0 opened_20)
   no_fixed_answer (one_sending k each) =
       omega (arith, differ k 0 12 (each (seat_that_sent 65534) Usual [] (replicate 7 0)) (each (seat_that_sent 65535) Usual [] []) sent_0 sent_12)
   no_fixed_answer (one_arrival k each) =
@@ -134,11 +134,11 @@ module _ (library : Library) (meets : Meets library) where
   something_changes : ChangesNothing library → ⊥
   something_changes (no_state_sent each) =
       let stays : fresh_seat 1 1 ≡ _ = sym (each (fresh_seat 1 1) Usual [] (replicate 7 0)) ∙ (meets.sending (fresh_seat 1 1) Usual [] (replicate 7 0)).next in
-      let z : ◌≡◌ {A = ℕ} 0 1 = ap (λ (s : Seat). entry s.past (seatNo 1)) stays ∙ a_send_counts in
+      let z : ◌≡◌ {A = ℕ} 0 1 = ap (λ (s : Seat). entry s.past (seat_no 1)) stays ∙ a_send_counts in
       omega arith
   something_changes (no_state_arrived each) =
       let stays : fresh_seat 2 2 ≡ _ = sym (each (fresh_seat 2 2) (first_sent Ordinary) []) ∙ (meets.arriving (fresh_seat 2 2) (first_sent Ordinary) []).next in
-      let z : ◌≡◌ {A = ℕ} 0 1 = ap (λ (s : Seat). entry s.run (seatNo 1)) stays ∙ arrivals_say.0 in
+      let z : ◌≡◌ {A = ℕ} 0 1 = ap (λ (s : Seat). entry s.run (seat_no 1)) stays ∙ arrivals_say.0 in
       omega arith
   something_changes (no_shelf each) =
       let stays : free_slot ≡ _ = sym (each (fresh_seat 2 2) (second_sent Ordinary Causal) free_slot) ∙ (meets.arriving (fresh_seat 2 2) (second_sent Ordinary Causal) free_slot).shelf_after_is in

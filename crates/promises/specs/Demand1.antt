@@ -1,7 +1,7 @@
 -- Demand 1: the exact occasion of every answer number, call by call, in document 01's words, and that from 10 up nothing
 -- changes. An occasion is a product of plain facts; no input is assumed to be good.
 use Rattle.std.specs.Prelude.{ℕ, ◌+◌, ◌%◌, ◌≤◌, ◌<◌, max, ◌≡◌, ◌↔◌, ◌⊎◌, true, false, List, [], ◌∷◌, length, get_or}
-use Rattle.answers.specs.Answers.{editNo, bare, report}
+use Rattle.answers.specs.Answers.{edit_no, bare, report}
 use Rattle.answers.specs.declared.SeatNo.{SeatNo}
 use Rattle.answers.specs.declared.Answer.{Answer}
 use Rattle.vectors.specs.Vectors.{entry}
@@ -224,14 +224,14 @@ pub record Reports : Type 0 where
   pub opening : (n : ℕ) (own : SeatNo) (shelf : List ℕ) → report (open_answer n own shelf) ≡ bare (answer_number (open_answer n own shelf))
   pub writing : (kind : Kind) (header : Header) (past barrier body out : List ℕ) → written kind header past barrier body out ≡ 0
       → (report (write_answer kind header past barrier body out)).edit
-      ≡ record { sender = header.sender; number = editNo (entry past header.sender); length = packet_length header.n (length body) }
+      ≡ record { sender = header.sender; number = edit_no (entry past header.sender); length = packet_length header.n (length body) }
   pub sending : (seat : Seat) (body out : List ℕ) → Held seat → sent seat body out ≡ 0
-      → (report (send_answer seat body out)).edit ≡ record { sender = seat.own; number = editNo (own_count seat + 1); length = packet_length seat.n (length body) }
+      → (report (send_answer seat body out)).edit ≡ record { sender = seat.own; number = edit_no (own_count seat + 1); length = packet_length seat.n (length body) }
   pub arriving : (seat : Seat) (shelf packet : List ℕ) → arrived seat shelf packet ≡ 0
-      → (report (arrive_answer seat shelf packet)).edit ≡ record { sender = sender_of packet; number = editNo (number_of packet); length = length (body_of packet) }
+      → (report (arrive_answer seat shelf packet)).edit ≡ record { sender = sender_of packet; number = edit_no (number_of packet); length = length (body_of packet) }
   pub releasing : (seat : Seat) (shelf out : List ℕ) → released seat shelf out ≡ 0 → (i : ℕ) → Next seat shelf i
       → (report (release_answer seat shelf out)).edit
-      ≡ record { sender = sender_of (packet_at shelf i); number = editNo (number_of (packet_at shelf i)); length = length (body_of (packet_at shelf i)) }
+      ≡ record { sender = sender_of (packet_at shelf i); number = edit_no (number_of (packet_at shelf i)); length = length (body_of (packet_at shelf i)) }
 
 -- ---- refusals
 

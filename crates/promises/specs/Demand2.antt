@@ -2,7 +2,7 @@
 -- these rules. `Held`, `Counts` and `Bytes` are what the types of arrays and slices say, and a step has no other premise:
 -- that state, shelf and packet are good follows from its answer.
 use Rattle.std.specs.Prelude.{ℕ, ◌+◌, ◌≤◌, max, ◌≡◌, ◌↔◌, ◌⊎◌, true, List, length, take}
-use Rattle.answers.specs.Answers.{seatNo, editNo}
+use Rattle.answers.specs.Answers.{seat_no, edit_no}
 use Rattle.answers.specs.declared.Edit.{Edit}
 use Rattle.answers.specs.declared.Answer.TheVariants.{Done}
 use Rattle.vectors.specs.Vectors.{entry, Counts}
@@ -76,12 +76,12 @@ pub record DeliveryRule (n j : ℕ) (x : Kind) (past-m barrier-m : ℕ → ℕ) 
 
 -- A vector by seat.
 abbrev pub vector_of : List ℕ → ℕ → ℕ
-vector_of v k = entry v (seatNo k)
+vector_of v k = entry v (seat_no k)
 
 -- past and barrier are the seat's; in del are the numbers at most run or marked in ahead.
 abbrev pub controller_of : Seat → Controller
 controller_of seat =
-    record { past = vector_of seat.past; barrier = vector_of seat.barrier; del = λ k t. handed (window_of seat (seatNo k)) t ≡ true }
+    record { past = vector_of seat.past; barrier = vector_of seat.barrier; del = λ k t. handed (window_of seat (seat_no k)) t ≡ true }
 
 -- ---- the steps are the rules
 
@@ -136,5 +136,5 @@ pub record Demand2 : Type 0 where
   -- what is read and written again is the same bytes
   pub read_writes_again : (packet out : List ℕ) (heading : Heading) → Bytes packet → length packet ≤ length out → (read_of packet).answer ≡ Packet heading
       → (write_answer heading.kind (header_in heading) (read_of packet).past (read_of packet).barrier (body_of packet) out
-      ≡ Done (record { sender = heading.sender; number = editNo (entry (read_of packet).past heading.sender); length = length packet }))
+      ≡ Done (record { sender = heading.sender; number = edit_no (entry (read_of packet).past heading.sender); length = length packet }))
       × (write_output heading.kind (header_in heading) (read_of packet).past (read_of packet).barrier (body_of packet) out ≡ at_start packet out)

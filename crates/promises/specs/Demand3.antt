@@ -2,7 +2,7 @@
 -- Each call's result is what that call's contract says. `Needs`, `Handed` and `Accepted` are judged from the events alone:
 -- `Kept` of crate session says so in full.
 use Rattle.std.specs.Prelude.{ℕ, zero, suc, ◌≡◌, cond, List, [], ◌∷◌, eqb, take}
-use Rattle.answers.specs.Answers.{seatNo, report}
+use Rattle.answers.specs.Answers.{seat_no, report}
 use Rattle.answers.specs.declared.Answer.{Answer}
 use Rattle.packet.specs.declared.Kind as packet
 use Rattle.packet.specs.declared.Kind.TheVariants.{Ordinary, Causal}
@@ -30,7 +30,7 @@ reported answer = record { by = (report answer).edit.sender.0; number = (report 
 pub record FreshlyOpened (n j : ℕ) (place : Place) : Type 0 where
   pub lent : List ℕ
   pub stepped : Stepped
-  pub contract : OpenedAs n (seatNo j) lent stepped place.shelf
+  pub contract : OpenedAs n (seat_no j) lent stepped place.shelf
   pub answered_0 : answer_number stepped.answer ≡ 0
   pub state : place.seat ≡ stepped.seat
 

@@ -1,7 +1,7 @@
 -- Document 01's P1 to P12, either side of each edge, as one table over the definitions that the contracts cite. A seat
 -- is fresh where it was just opened; where a shelf is not named, it has no slots; where a body is not named, it is empty.
 use Rattle.std.specs.Prelude.{ℕ, ◌+◌, ◌≤◌, ◌≡◌, true, List, [], ◌∷◌, ◌++◌, length, replicate}
-use Rattle.answers.specs.Answers.{seatNo}
+use Rattle.answers.specs.Answers.{seat_no}
 use Rattle.vectors.specs.Vectors.{entry, zeros, table}
 use Rattle.packet.specs.Packet.{body_length_of, past_of, barrier_of}
 use Rattle.packet.specs.Reading.{read_of, read_number}
@@ -20,11 +20,11 @@ use Rattle.promises.specs.Demand1.{answer_number}
 
 -- A fresh seat, by its own number and n.
 abbrev pub fresh_seat : ℕ → ℕ → Seat
-fresh_seat own n = counting n (seatNo own)
+fresh_seat own n = counting n (seat_no own)
 
 -- The one seat of a session, with a count of edits sent.
 abbrev pub seat_that_sent : ℕ → Seat
-seat_that_sent count = record { n = 1; own = seatNo 1; past = count ∷ replicate 15 0; barrier = zeros; run = zeros; ahead = zeros }
+seat_that_sent count = record { n = 1; own = seat_no 1; past = count ∷ replicate 15 0; barrier = zeros; run = zeros; ahead = zeros }
 
 -- What the packet that a seat sends next says at the seat itself: past and barrier.
 pub record Says (seat : Seat) (kind : Kind) (past barrier : ℕ) : Type 0 where
@@ -33,7 +33,7 @@ pub record Says (seat : Seat) (kind : Kind) (past barrier : ℕ) : Type 0 where
 
 -- An ordinary packet from seat 1 of 2, with this number, barrier 0, and past of seat 2 as given.
 abbrev pub from_one : ℕ → ℕ → List ℕ → List ℕ
-from_one number other body = packet_of Ordinary (record { n = 2; sender = seatNo 1 }) (number ∷ other ∷ replicate 14 0) zeros body
+from_one number other body = packet_of Ordinary (record { n = 2; sender = seat_no 1 }) (number ∷ other ∷ replicate 14 0) zeros body
 
 -- The first packet that seat 1 of 2 sends, and the second.
 abbrev pub first_sent : Kind → List ℕ
@@ -71,10 +71,10 @@ one_last = 64 ∷ table 62 (λ k. k + 2) ++ (1 ∷ [])
 pub record Edges : Type 0 where
   -- open 0 of 0, 1 of 17 and 3 of 2 seats is 20; open 16 of 16 is 0
   pub p1 : (shelf : List ℕ)
-      → (answer_number (open_answer 0 (seatNo 0) shelf) ≡ 20)
-      × (answer_number (open_answer 17 (seatNo 1) shelf) ≡ 20)
-      × (answer_number (open_answer 2 (seatNo 3) shelf) ≡ 20)
-      × (whole_slots shelf ≡ true → answer_number (open_answer 16 (seatNo 16) shelf) ≡ 0)
+      → (answer_number (open_answer 0 (seat_no 0) shelf) ≡ 20)
+      × (answer_number (open_answer 17 (seat_no 1) shelf) ≡ 20)
+      × (answer_number (open_answer 2 (seat_no 3) shelf) ≡ 20)
+      × (whole_slots shelf ≡ true → answer_number (open_answer 16 (seat_no 16) shelf) ≡ 0)
   -- one seat, first ordinary: past 1, barrier 0
   pub p2 : Says (fresh_seat 1 1) Ordinary 1 0
   -- one seat, first causal: past 1, barrier 0; an ordinary after it: past 2, barrier 1
@@ -86,8 +86,8 @@ pub record Edges : Type 0 where
   pub p5 : (arrival_number (fresh_seat 2 2) (from_one 64 0 []) ≡ 0) × (arrival_number (fresh_seat 2 2) (from_one 65 0 []) ≡ 18)
   -- number 64, then 2 to 63, then 1, each handed over: run is 64, ahead is 0
   pub p6 : (arrival_numbers (fresh_seat 2 2) (packets_numbered one_last) ≡ replicate 64 0)
-      × (entry (after_arrivals (fresh_seat 2 2) (packets_numbered one_last)).run (seatNo 1) ≡ 64)
-      × (entry (after_arrivals (fresh_seat 2 2) (packets_numbered one_last)).ahead (seatNo 1) ≡ 0)
+      × (entry (after_arrivals (fresh_seat 2 2) (packets_numbered one_last)).run (seat_no 1) ≡ 64)
+      × (entry (after_arrivals (fresh_seat 2 2) (packets_numbered one_last)).ahead (seat_no 1) ≡ 0)
   -- own count 65,534 sends; 65,535 is 12
   pub p7 : (out : List ℕ)
       → (7 ≤ length out → answer_number (send_answer (seat_that_sent 65534) [] out) ≡ 0)

@@ -6,7 +6,7 @@ use mathlib.Core.List.{List}
 use native.Mathlib.Omega.{arith}
 use lib.ListN.{length, get_or}
 use lib.Seq.{sets, set-set, set-get_or}
-use Rattle.answers.specs.Answers.{editNo}
+use Rattle.answers.specs.Answers.{edit_no}
 use Rattle.vectors.specs.Vectors.{entry, Counts}
 use Rattle.vectors.proofs.Tests.{zero_above_of}
 use Rattle.packet.specs.Packet.{packet_length, less_one}
@@ -81,10 +81,10 @@ module _ (seat : Seat) (sound : sound_state seat ≡ true) (held : Held seat) wh
   -- ---- the edit that is answered
 
   pub sent_edit_is : (body : List ℕ) (count : ℕ) → count ≡ own_count seat
-      → edit_of (header_of seat) (past_sent seat) body ≡ record { sender = seat.own; number = editNo (count + 1); length = packet_length seat.n (length body) }
+      → edit_of (header_of seat) (past_sent seat) body ≡ record { sender = seat.own; number = edit_no (count + 1); length = packet_length seat.n (length body) }
   sent_edit_is body count is =
       let number : entry (past_sent seat) seat.own ≡ count + 1 = own_count_rises seat sound held ∙ ap (λ (k : ℕ). k + 1) (sym is) in
-      (λ i. record { sender = seat.own; number = editNo (number i); length = packet_length seat.n (length body) })
+      (λ i. record { sender = seat.own; number = edit_no (number i); length = packet_length seat.n (length body) })
 
   module _ (not_full : own_count seat < 65535) where
     -- ---- it stands at the output's start

@@ -5,7 +5,7 @@ use mathlib.Core.Bool.{true}
 use mathlib.Core.List.{List}
 use native.Mathlib.Omega.{arith}
 use lib.ListN.{length, length-drop}
-use Rattle.answers.specs.Answers.{editNo}
+use Rattle.answers.specs.Answers.{edit_no}
 use Rattle.answers.specs.declared.SeatNo.{SeatNo}
 use Rattle.answers.specs.declared.Edit.{Edit}
 use Rattle.vectors.specs.Vectors.{entry}
@@ -33,7 +33,7 @@ pub record Sizes (heading : Heading) (packet : List ℕ) : Type 0 where
 
 -- the edit that a packet carries, by its heading, past and length
 abbrev pub carried : Heading → List ℕ → ℕ → Edit
-carried heading past packet = record { sender = heading.sender; number = editNo (entry past heading.sender); length = packet - body_at heading.n }
+carried heading past packet = record { sender = heading.sender; number = edit_no (entry past heading.sender); length = packet - body_at heading.n }
 
 module _ (packet : List ℕ) (heading : Heading) (well : first_bad_point packet ≡ 0) (is : heading ≡ heading_of packet) where
   pub read_sizes : Sizes heading packet

@@ -1,6 +1,6 @@
 -- A packet arrives: it is handed over, put on the shelf, or refused (document 01, "The steps" and "Answer numbers").
 use Rattle.std.specs.Prelude.{ℕ, ◌≡◌, Bool, cond, not, ◌&&◌, ◌||◌, List, [], ◌∷◌, eqb, length}
-use Rattle.answers.specs.Answers.{editNo, first_of}
+use Rattle.answers.specs.Answers.{edit_no, first_of}
 use Rattle.answers.specs.declared.Edit.{Edit}
 use Rattle.answers.specs.declared.Refusal.{Refusal}
 use Rattle.answers.specs.declared.Refusal.TheVariants.{NotSound, NotWellFormed, OtherSession, AboveOwnCount, Repeated, TooFarAhead, ShelfFull, BarrierAbovePast}
@@ -49,7 +49,7 @@ arrive_refusals seat shelf packet =
 
 -- The edit that is handed over, with its body's length.
 abbrev pub edit_handed : List ℕ → Edit
-edit_handed packet = record { sender = sender_of packet; number = editNo (number_of packet); length = length (body_of packet) }
+edit_handed packet = record { sender = sender_of packet; number = edit_no (number_of packet); length = length (body_of packet) }
 
 -- A ready arrival is handed over, another is put on the shelf.
 unfoldable pub ready_answer : Seat → Heading → List ℕ → List ℕ → Edit → Answer

@@ -1,6 +1,6 @@
 -- A seat's state, and when it is sound (document 01, "Numbers of a seat").
 use Rattle.std.specs.Prelude.{ℕ, ◌-◌, ◌≤◌, ◌<◌, ◌≡◌, Bool, ◌&&◌, length, get_or}
-use Rattle.answers.specs.Answers.{seatNo}
+use Rattle.answers.specs.Answers.{seat_no}
 use Rattle.answers.specs.declared.SeatNo.{SeatNo}
 use Rattle.vectors.specs.Vectors.{seats_most, all, entry, within, zero_above, zeros}
 use Rattle.window.specs.Window.{sound_window, SoundWindow}
@@ -72,4 +72,4 @@ counting n own = record { n = n; own = own; past = zeros; barrier = zeros; run =
 
 -- A state of zeros only, which is not sound.
 abbrev pub no_seat : Seat
-no_seat = counting 0 (seatNo 0)
+no_seat = counting 0 (seat_no 0)

@@ -1,6 +1,6 @@
 // The answer to a packet that arrives, and to one that is released, once state and shelf are found sound.
 ghost use Rattle.std.specs.Prelude.{◌≡◌, ◌+◌, ◌*◌, ◌-◌, ◌≤◌, length};
-ghost use Rattle.answers.specs.Answers.{editNo, first_of};
+ghost use Rattle.answers.specs.Answers.{edit_no, first_of};
 ghost use Rattle.vectors.specs.Vectors.{entry};
 ghost use Rattle.packet.specs.Packet.{body_at};
 ghost use Rattle.seat.specs.Arriving.{admission_refusals, admitted_answer, Arrived};
@@ -16,7 +16,7 @@ use shelf::SLOT_SIZE;
 // The edit that a packet of some length carries, with its body's length.
 pub fn edit_in(heading: Heading, past: [u16; 16], packet: usize) -> Edit
     requires { (1 ≤ heading.sender.0) × (heading.sender.0 ≤ 16) × (heading.n ≤ 16) × (body_at heading.n ≤ packet) × (packet ≤ 267) }
-    ensures { result ≡ record { sender = heading.sender; number = editNo (entry past heading.sender); length = packet - body_at heading.n } }
+    ensures { result ≡ record { sender = heading.sender; number = edit_no (entry past heading.sender); length = packet - body_at heading.n } }
 {
     let sender = heading.sender;
     let at = (sender.0 - 1) as usize;

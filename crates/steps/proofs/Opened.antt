@@ -11,7 +11,7 @@ use borrow.Author.Tests.{le-leb}
 use borrow.Rule.Slice.PartMut.{put_mid}
 use lib.ListN.{length, get_or, set, take, drop, replicate, length-set, length-replicate}
 use lib.Seq.{get_or-set_same, get_or-set_other}
-use Rattle.answers.specs.Answers.{seatNo}
+use Rattle.answers.specs.Answers.{seat_no}
 use Rattle.answers.specs.declared.Answer.TheVariants.{Opened}
 use Rattle.packet.specs.Writing.{in_range}
 use Rattle.shelf.specs.Shelf.{slot_size, whole_slots}
@@ -33,32 +33,32 @@ whole_shelf slots shelf few long =
     rw (long, mul-mod_left slots slot_size, mul-div_cancel slots {n = slot_size} (omega arith)) (le-leb slots 32 (omega arith))
 
 module _ (n slots i : ℕ) (there : i < n) (seats_within_most : n ≤ 16) (few : slots ≤ slots_most) where
-  seat_in_range : in_range (record { n = n; sender = seatNo (suc i) }) ≡ true
+  seat_in_range : in_range (record { n = n; sender = seat_no (suc i) }) ≡ true
   unfolding in_range
   seat_in_range = rw (le-leb 1 n (omega arith), le-leb n 16 seats_within_most, le-leb 1 (suc i) (omega arith), le-leb (suc i) n there)
 
-  opens : (shelf : List ℕ) → length shelf ≡ slots * slot_size → open_answer n (seatNo (suc i)) shelf ≡ Opened
-  opens shelf long = opening_answers_0 n (seatNo (suc i)) shelf seat_in_range (whole_shelf slots shelf few long)
+  opens : (shelf : List ℕ) → length shelf ≡ slots * slot_size → open_answer n (seat_no (suc i)) shelf ≡ Opened
+  opens shelf long = opening_answers_0 n (seat_no (suc i)) shelf seat_in_range (whole_shelf slots shelf few long)
 
-  pub opened_place_is : opened_place n slots (suc i) ≡ record { seat = counting n (seatNo (suc i)); shelf = replicate (slots * slot_size) 0 }
+  pub opened_place_is : opened_place n slots (suc i) ≡ record { seat = counting n (seat_no (suc i)); shelf = replicate (slots * slot_size) 0 }
   opened_place_is =
       let zeros = replicate {A = ℕ} (slots * slot_size) 0 in
       let long = length-replicate {A = ℕ} (slots * slot_size) 0 in
-      (λ p. record { seat = opened_seat (opens zeros long p) n (seatNo (suc i)); shelf = opened_shelf (opens zeros long p) zeros })
-      ∙ (λ p. record { seat = counting n (seatNo (suc i)); shelf = replicate (long p) 0 })
+      (λ p. record { seat = opened_seat (opens zeros long p) n (seat_no (suc i)); shelf = opened_shelf (opens zeros long p) zeros })
+      ∙ (λ p. record { seat = counting n (seat_no (suc i)); shelf = replicate (long p) 0 })
 
   pub opened_at : (shelves : List ℕ) (stepped : Stepped) (after : List ℕ) → slots * slot_size * i + slots * slot_size ≤ length shelves
-      → OpenedAs n (seatNo (i + 1)) (take (slots * slot_size * i + slots * slot_size - slots * slot_size * i) (drop (slots * slot_size * i) shelves)) stepped after
+      → OpenedAs n (seat_no (i + 1)) (take (slots * slot_size * i + slots * slot_size - slots * slot_size * i) (drop (slots * slot_size * i) shelves)) stepped after
       → OpenedIn n slots i shelves stepped.seat (put_mid (slots * slot_size * i) (slots * slot_size * i + slots * slot_size - slots * slot_size * i) shelves after)
   opened_at shelves stepped after inside lent =
       let size = slots * slot_size in
       let long = length_piece size shelves i inside in
-      let at : OpenedAs n (seatNo (suc i)) (piece size shelves i) stepped after
-      = subst (λ (k : ℕ). OpenedAs n (seatNo k) (piece size shelves i) stepped after) (add-one i)
-      (subst (λ (shelf : List ℕ). OpenedAs n (seatNo (i + 1)) shelf stepped after) (part_lent size i shelves) lent) in
+      let at : OpenedAs n (seat_no (suc i)) (piece size shelves i) stepped after
+      = subst (λ (k : ℕ). OpenedAs n (seat_no k) (piece size shelves i) stepped after) (add-one i)
+      (subst (λ (shelf : List ℕ). OpenedAs n (seat_no (i + 1)) shelf stepped after) (part_lent size i shelves) lent) in
       let yields = opens (piece size shelves i) long in
       record {
-        seat_is = at.next ∙ (λ p. opened_seat (yields p) n (seatNo (suc i)));
+        seat_is = at.next ∙ (λ p. opened_seat (yields p) n (seat_no (suc i)));
         shelves_are = part_back size i shelves after
             ∙ ap (with_piece size shelves i) (at.shelf_after_is ∙ (λ p. opened_shelf (yields p) (piece size shelves i)) ∙ ap (λ (k : ℕ). replicate {A = ℕ} k 0) long);
       }
@@ -80,7 +80,7 @@ module _ (n slots : ℕ) (seats_within_most : n ≤ 16) (few : slots ≤ slots_m
   one_more_opened k seats shelves seat shelves-left h long so at =
       record { long = length-set seats k seat ∙ so.long; seat_is = seat_is; shelf_is = shelf_is }
     where
-      seat_is : (i : ℕ) → i < k + 1 → get_or (set seats k seat) i nobody ≡ counting n (seatNo (suc i))
+      seat_is : (i : ℕ) → i < k + 1 → get_or (set seats k seat) i nobody ≡ counting n (seat_no (suc i))
       seat_is i l =
           elim (ℕ_discrete i k) [
             | yes here ↦ rw here (get_or-set_same seats k seat nobody (omega (arith, so.long)) ∙ at.seat_is)

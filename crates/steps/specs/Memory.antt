@@ -1,6 +1,6 @@
 -- How a session is held: the states in an array, the shelves and the packets each in one buffer, in pieces of one size.
 use Rattle.std.specs.Prelude.{ℕ, suc, ◌+◌, ◌*◌, ◌≤◌, ◌<◌, ◌≡◌, Bool, ◌&&◌, List, [], ◌++◌, leb, eqb, length, get_or, set, take, drop, replicate}
-use Rattle.answers.specs.Answers.{seatNo, report}
+use Rattle.answers.specs.Answers.{seat_no, report}
 use Rattle.answers.specs.declared.Answer.{Answer}
 use Rattle.answers.specs.declared.Answer.TheVariants.{Opened, Done, Shelved, NothingReady, Refused}
 use Rattle.packet.specs.Packet.{packet_length}
@@ -179,11 +179,11 @@ ReleasedAt walk i shelves =
 
 -- The seat at i was opened.
 pub record OpenedIn (n slots i : ℕ) (shelves : List ℕ) (seat : Seat) (shelves-left : List ℕ) : Type 0 where
-  pub seat_is : seat ≡ counting n (seatNo (suc i))
+  pub seat_is : seat ≡ counting n (seat_no (suc i))
   pub shelves_are : shelves-left ≡ with_piece (slots * slot_size) shelves i (replicate (slots * slot_size) 0)
 
 -- The first k seats of n were opened.
 pub record AllOpened (k n slots : ℕ) (seats : List Seat) (shelves : List ℕ) : Type 0 where
   pub long : length seats ≡ 16
-  pub seat_is : (i : ℕ) → i < k → get_or seats i nobody ≡ counting n (seatNo (suc i))
+  pub seat_is : (i : ℕ) → i < k → get_or seats i nobody ≡ counting n (seat_no (suc i))
   pub shelf_is : (i : ℕ) → i < k → piece (slots * slot_size) shelves i ≡ replicate (slots * slot_size) 0

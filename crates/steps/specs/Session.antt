@@ -1,7 +1,7 @@
 -- A session as a step list walks it (document 01, "The step-list program"): seats that were opened together, the packets
 -- sent so far, and what each step is answered. Every answer, state and shelf is what the call's own definition says.
 use Rattle.std.specs.Prelude.{ℕ, zero, suc, ◌+◌, ◌*◌, ◌-◌, Bool, cond, ◌&&◌, List, [], ◌∷◌, ◌++◌, leb, ltb, eqb, length, get_or, set, replicate}
-use Rattle.answers.specs.Answers.{seatNo, bare, report}
+use Rattle.answers.specs.Answers.{seat_no, bare, report}
 use Rattle.answers.specs.declared.Report.{Report}
 use Rattle.answers.specs.declared.Answer.{Answer}
 use Rattle.answers.specs.declared.Answer.TheVariants.{Opened, Done, Shelved, NothingReady, Refused}
@@ -52,7 +52,7 @@ seated session k = leb 1 k && leb k session.n
 
 -- What an index past the last place gives.
 abbrev pub nobody : Seat
-nobody = record { n = 0; own = seatNo 0; past = []; barrier = []; run = []; ahead = [] }
+nobody = record { n = 0; own = seat_no 0; past = []; barrier = []; run = []; ahead = [] }
 
 abbrev pub no_place : Place
 no_place = record { seat = nobody; shelf = [] }
@@ -188,11 +188,11 @@ list_of (suc n) f = list_of n f ++ (f n ∷ [])
 
 -- Seat k of n, opened with a shelf of so many slots.
 abbrev pub opened_as : ℕ → ℕ → List ℕ → Answer → Place
-opened_as n k lent answer = record { seat = opened_seat answer n (seatNo k); shelf = opened_shelf answer lent }
+opened_as n k lent answer = record { seat = opened_seat answer n (seat_no k); shelf = opened_shelf answer lent }
 
 abbrev pub opened_place : ℕ → ℕ → ℕ → Place
 opened_place n slots k =
-    opened_as n k (replicate (slots * slot_size) 0) (open_answer n (seatNo k) (replicate (slots * slot_size) 0))
+    opened_as n k (replicate (slots * slot_size) 0) (open_answer n (seat_no k) (replicate (slots * slot_size) 0))
 
 -- Freshly opened seats, numbered 1 to n once each.
 unfoldable pub opened : ℕ → ℕ → Session

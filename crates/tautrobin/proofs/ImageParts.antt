@@ -8,7 +8,7 @@ use native.Mathlib.Decide.{dec_lt}
 use native.Mathlib.Omega.{arith}
 use lib.ListN.{length, get_or, set, take, drop, length-append, get_or-eq_default}
 use lib.Seq.{sets, sets-eq, take_all, drop-length}
-use Rattle.answers.specs.Answers.{seatNo}
+use Rattle.answers.specs.Answers.{seat_no}
 use Rattle.vectors.specs.Bytes.{number_at, fields_of, Bytes}
 use Rattle.vectors.proofs.Vector.{length_vector, vector_below}
 use Rattle.vectors.proofs.Numbers.{length_fields_of, number_fits, sets_then}
@@ -21,7 +21,7 @@ use Rattle.seat.specs.declared.Seat.{Seat}
 pub decoded_is : (image past barrier run ahead : List ℕ) → past ≡ fields_at 2 image past_at → barrier ≡ fields_at 2 image barrier_at
     → run ≡ fields_at 2 image run_at → ahead ≡ fields_at 8 image ahead_at
     → ◌≡◌ {A = Seat}
-    (record { n = get_or image 0 0 / 16 + 1; own = seatNo (get_or image 0 0 % 16 + 1); past = past; barrier = barrier; run = run; ahead = ahead })
+    (record { n = get_or image 0 0 / 16 + 1; own = seat_no (get_or image 0 0 % 16 + 1); past = past; barrier = barrier; run = run; ahead = ahead })
     (decoded image)
 unfolding decoded
 decoded_is image past barrier run ahead is-past is-barrier is-run is-ahead = rw (is-past, is-barrier, is-run, is-ahead)

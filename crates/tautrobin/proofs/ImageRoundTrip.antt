@@ -5,7 +5,7 @@ use mathlib.Core.List.{List, [], ◌∷◌, ◌++◌, append_assoc, append-nil}
 use native.Mathlib.Omega.{arith}
 use lib.ListN.{length, get_or, take, drop, length-append, length-drop}
 use lib.Seq.{sets, sets-eq, take_all, take-add, take-suc, drop-drop}
-use Rattle.answers.specs.Answers.{seatNo}
+use Rattle.answers.specs.Answers.{seat_no}
 use Rattle.answers.specs.declared.SeatNo.{SeatNo}
 use Rattle.vectors.specs.Vectors.{vector, table}
 use Rattle.vectors.specs.Bytes.{fields_of, Bytes}
@@ -31,7 +31,7 @@ fields_back w before v after at here long fits =
 
 seat_is : (seat : Seat) (n own : ℕ) (past barrier run ahead : List ℕ) → n ≡ seat.n → own ≡ seat.own.0 → past ≡ seat.past → barrier ≡ seat.barrier
     → run ≡ seat.run → ahead ≡ seat.ahead
-    → ◌≡◌ {A = Seat} (record { n = n; own = seatNo own; past = past; barrier = barrier; run = run; ahead = ahead }) seat
+    → ◌≡◌ {A = Seat} (record { n = n; own = seat_no own; past = past; barrier = barrier; run = run; ahead = ahead }) seat
 seat_is seat n own past barrier run ahead is-n is-own is-past is-barrier is-run is-ahead = rw (is-n, is-own, is-past, is-barrier, is-run, is-ahead)
 
 module _ (seat : Seat) (held : Held seat) (numbered : Numbered seat) where

@@ -5,7 +5,7 @@ use mathlib.Core.Bool.{true, false}
 use mathlib.Core.List.{List}
 use native.Mathlib.Omega.{arith}
 use lib.ListN.{length}
-use Rattle.answers.specs.Answers.{seatNo, bare, report}
+use Rattle.answers.specs.Answers.{seat_no, bare, report}
 use Rattle.packet.specs.Writing.{in_range}
 use Rattle.packet.proofs.Writable.{is_in_range}
 use Rattle.shelf.specs.Shelf.{whole_slots}
@@ -18,37 +18,37 @@ use Rattle.tautrobin.proofs.Reporting.{packed_bare, refuses, goes_on, none_left,
 use Rattle.tautrobin.proofs.Keeping.{right_length, wrong_length_lem, opened_shelf_left_alone, kept_answer, kept_image}
 
 -- the numbers are those of no seat
-pub no_seat_above : (n own : ℕ) → (n ≤ 16 → own ≤ n → ⊥) → in_range (record { n = n; sender = seatNo own }) ≡ false
+pub no_seat_above : (n own : ℕ) → (n ≤ 16 → own ≤ n → ⊥) → in_range (record { n = n; sender = seat_no own }) ≡ false
 no_seat_above n own above =
-    elim (in_range (record { n = n; sender = seatNo own })) as (λ b. in_range (record { n = n; sender = seatNo own }) ≡ b → in_range (record { n = n; sender = seatNo own }) ≡ false) [
+    elim (in_range (record { n = n; sender = seat_no own })) as (λ b. in_range (record { n = n; sender = seat_no own }) ≡ b → in_range (record { n = n; sender = seat_no own }) ≡ false) [
       | true ↦ λ e. let r = is_in_range _ e in absurd (above r.seats_high r.sender_high)
       | false ↦ λ e. e
     ] refl
 
 -- an opened seat is in range
-pub stepped_open_is_numbered : (n own : ℕ) (shelf : List ℕ) (stepped : Stepped) (after : List ℕ) → in_range (record { n = n; sender = seatNo own }) ≡ true
-    → OpenedAs n (seatNo own) shelf stepped after → (report stepped.answer).answer ≤ 1 → Numbered stepped.seat
+pub stepped_open_is_numbered : (n own : ℕ) (shelf : List ℕ) (stepped : Stepped) (after : List ℕ) → in_range (record { n = n; sender = seat_no own }) ≡ true
+    → OpenedAs n (seat_no own) shelf stepped after → (report stepped.answer).answer ≤ 1 → Numbered stepped.seat
 stepped_open_is_numbered n own shelf stepped after range opened done =
     elim (whole_slots shelf) as (λ b. whole_slots shelf ≡ b → Numbered stepped.seat) [
       | true ↦ λ whole.
           let r = is_in_range _ range in
-          rw (opened.next, opening_answers_0 n (seatNo own) shelf range whole)
+          rw (opened.next, opening_answers_0 n (seat_no own) shelf range whole)
           (record { seats_low = r.seats_low; seats_high = r.seats_high; own_low = r.sender_low; own_high = omega arith })
       | false ↦ λ broken.
-          let none : 10 ≤ 1 = rw (opened.answered, broken_shelf_answers_10 n (seatNo own) shelf range broken) at done in absurd (omega arith)
+          let none : 10 ≤ 1 = rw (opened.answered, broken_shelf_answers_10 n (seat_no own) shelf range broken) at done in absurd (omega arith)
     ] refl
 
 module _ (n own : ℕ) (image shelf : List ℕ) where
-  pub no_such_seat_is_20 : in_range (record { n = n; sender = seatNo own }) ≡ false → open_report n own image shelf ≡ bare 20
+  pub no_such_seat_is_20 : in_range (record { n = n; sender = seat_no own }) ≡ false → open_report n own image shelf ≡ bare 20
   unfolding open_report
   no_such_seat_is_20 out = refuses 20 _ _ _ (rw out)
 
-  module _ (range : in_range (record { n = n; sender = seatNo own }) ≡ true) where
+  module _ (range : in_range (record { n = n; sender = seat_no own }) ≡ true) where
     pub open_wrong_length_is_10 : (length image ≡ image_size → ⊥) → open_report n own image shelf ≡ bare 10
     unfolding open_report
     open_wrong_length_is_10 wrong = goes_on 20 _ _ _ (rw range) ∙ refuses 10 _ _ _ (wrong_length_lem image wrong)
 
-    pub open_steps : length image ≡ image_size → open_report n own image shelf ≡ report (open_answer n (seatNo own) shelf)
+    pub open_steps : length image ≡ image_size → open_report n own image shelf ≡ report (open_answer n (seat_no own) shelf)
     unfolding open_report
     open_steps right = goes_on 20 _ _ _ (rw range) ∙ goes_on 10 _ _ _ (right_length image right) ∙ none_left _
 
@@ -60,11 +60,11 @@ module _ (n own : ℕ) (image shelf : List ℕ) where
         shelf_after_is = rw told (sym (left_alone (bare number) _ shelf large));
       }
 
-  pub stepped_open_call : (stepped : Stepped) (answer : ℕ) (image-left shelf-left : List ℕ) → open_report n own image shelf ≡ report (open_answer n (seatNo own) shelf)
-      → OpenedAs n (seatNo own) shelf stepped shelf-left → Kept stepped image answer image-left → OpenCalled n own image shelf answer image-left shelf-left
+  pub stepped_open_call : (stepped : Stepped) (answer : ℕ) (image-left shelf-left : List ℕ) → open_report n own image shelf ≡ report (open_answer n (seat_no own) shelf)
+      → OpenedAs n (seat_no own) shelf stepped shelf-left → Kept stepped image answer image-left → OpenCalled n own image shelf answer image-left shelf-left
   stepped_open_call stepped answer image-left shelf-left told opened kept =
       record {
         answered = kept_answer image stepped answer image-left _ _ opened.answered told kept;
         image_after = kept_image image stepped answer image-left _ _ _ opened.answered told opened.next kept;
-        shelf_after_is = opened.shelf_after_is ∙ rw told (stands (open_answer n (seatNo own) shelf) _ shelf (opened_shelf_left_alone (open_answer n (seatNo own) shelf) shelf));
+        shelf_after_is = opened.shelf_after_is ∙ rw told (stands (open_answer n (seat_no own) shelf) _ shelf (opened_shelf_left_alone (open_answer n (seat_no own) shelf) shelf));
       }

@@ -5,7 +5,7 @@ use mathlib.Core.Bool.{Bool, true, false}
 use mathlib.Core.List.{List, [], ◌∷◌}
 use native.Mathlib.Omega.{arith}
 use borrow.Author.Tests.{le-leb, lt-leb}
-use Rattle.answers.specs.Answers.{bare, report, refusalNumber}
+use Rattle.answers.specs.Answers.{bare, report, refusal_number}
 use Rattle.answers.specs.declared.Refusal.{Refusal}
 use Rattle.answers.specs.declared.Refusal.TheVariants.{NotSound, BodyTooLong, CountFull, OutputTooShort, NotWellFormed, OtherSession, AboveOwnCount, Repeated, TooFarAhead, ShelfFull, NoSuchSeat, BarrierAbovePast}
 use Rattle.answers.specs.declared.Answer.{Answer}
@@ -29,7 +29,7 @@ pub packed_edit : (told : Report) → told.answer < 256 → told.edit.sender.0 <
 unfolding packed
 packed_edit told small sender number length = (omega arith, omega arith, omega arith)
 
-refusals_between : (refusal : Refusal) → (1 < refusalNumber refusal) × (refusalNumber refusal < 256)
+refusals_between : (refusal : Refusal) → (1 < refusal_number refusal) × (refusal_number refusal < 256)
 refusals_between NotSound = (omega arith, omega arith)
 refusals_between BodyTooLong = (omega arith, omega arith)
 refusals_between CountFull = (omega arith, omega arith)
@@ -95,4 +95,4 @@ stands Opened next before same = refl
 stands (Done edit) next before same = refl
 stands Shelved next before same = refl
 stands NothingReady next before same = same (omega arith)
-stands (Refused refusal) next before same = let large = (refusals_between refusal).0 in rw (lt-leb (refusalNumber refusal) 1 large) (same large)
+stands (Refused refusal) next before same = let large = (refusals_between refusal).0 in rw (lt-leb (refusal_number refusal) 1 large) (same large)

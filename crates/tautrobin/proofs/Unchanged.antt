@@ -3,7 +3,7 @@ use Prim.Native.Nat.{ℕ, ◌<◌}
 use mathlib.Core.Path.{◌≡◌, ◌∙◌}
 use mathlib.Core.List.{List}
 use native.Mathlib.Omega.{arith}
-use Rattle.answers.specs.Answers.{seatNo}
+use Rattle.answers.specs.Answers.{seat_no}
 use Rattle.seat.specs.Opening.{open_answer}
 use Rattle.seat.specs.Sending.{send_answer}
 use Rattle.seat.specs.Arriving.{arrive_answer}
@@ -15,7 +15,7 @@ use Rattle.tautrobin.proofs.Reporting.{last_is_small, first_is_small, told_large
 module _ (n own : ℕ) (image shelf : List ℕ) where
   open_is_small : (open_report n own image shelf).answer < 256
   unfolding open_report
-  open_is_small = first_is_small 20 _ _ _ (omega arith) (first_is_small 10 _ _ _ (omega arith) (last_is_small (open_answer n (seatNo own) shelf)))
+  open_is_small = first_is_small 20 _ _ _ (omega arith) (first_is_small 10 _ _ _ (omega arith) (last_is_small (open_answer n (seat_no own) shelf)))
 
   pub open_call_leaves_all : (answer : ℕ) (image-left shelf-left : List ℕ) → OpenCalled n own image shelf answer image-left shelf-left → 1 < answer_number answer
       → (image-left ≡ image) × (shelf-left ≡ shelf)

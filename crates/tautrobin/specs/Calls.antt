@@ -1,7 +1,7 @@
 -- The calls from C: the library's step between decoding and encoding the state, on numbers and bytes (document 01, "For
 -- the package, which is written in C" and "Answer numbers").
 use Rattle.std.specs.Prelude.{ℕ, ◌+◌, ◌*◌, ◌/◌, ◌%◌, ◌≡◌, Bool, true, false, cond, not, List, [], ◌∷◌, leb, ltb, eqb, length}
-use Rattle.answers.specs.Answers.{seatNo, bare, report}
+use Rattle.answers.specs.Answers.{seat_no, bare, report}
 use Rattle.answers.specs.declared.Report.{Report}
 use Rattle.packet.specs.Writing.{in_range, output_after}
 use Rattle.packet.specs.Reading.{body_of}
@@ -59,14 +59,14 @@ pub record Kept (stepped : Stepped) (image : List ℕ) (answer : ℕ) (image-lef
 
 unfoldable pub open_report : ℕ → ℕ → List ℕ → List ℕ → Report
 open_report n own image shelf =
-    first_report ((20, not (in_range (record { n = n; sender = seatNo own }))) ∷ (10, wrong_length image) ∷ [])
-    (report (open_answer n (seatNo own) shelf))
+    first_report ((20, not (in_range (record { n = n; sender = seat_no own }))) ∷ (10, wrong_length image) ∷ [])
+    (report (open_answer n (seat_no own) shelf))
 
 pub record OpenCalled (n own : ℕ) (image shelf : List ℕ) (answer : ℕ) (image-left shelf-left : List ℕ) : Type 0 where
   pub answered : answer ≡ packed (open_report n own image shelf)
   pub image_after : image-left
-      ≡ rewritten (open_report n own image shelf) (encoded (opened_seat (open_answer n (seatNo own) shelf) n (seatNo own))) image
-  pub shelf_after_is : shelf-left ≡ rewritten (open_report n own image shelf) (opened_shelf (open_answer n (seatNo own) shelf) shelf) shelf
+      ≡ rewritten (open_report n own image shelf) (encoded (opened_seat (open_answer n (seat_no own) shelf) n (seat_no own))) image
+  pub shelf_after_is : shelf-left ≡ rewritten (open_report n own image shelf) (opened_shelf (open_answer n (seat_no own) shelf) shelf) shelf
 
 -- ---- send
 

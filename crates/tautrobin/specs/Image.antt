@@ -1,7 +1,7 @@
 -- The state as it crosses to C: an image of 225 bytes, bit-packed, most significant first (document 01, "For the
 -- package, which is written in C").
 use Rattle.std.specs.Prelude.{ℕ, ◌+◌, ◌*◌, ◌-◌, ◌/◌, ◌%◌, ◌≤◌, ◌≡◌, List, [], ◌∷◌, ◌++◌, get_or}
-use Rattle.answers.specs.Answers.{seatNo}
+use Rattle.answers.specs.Answers.{seat_no}
 use Rattle.vectors.specs.Vectors.{seats_most, vector}
 use Rattle.vectors.specs.Bytes.{number_at, fields_of}
 use Rattle.seat.specs.declared.Seat.{Seat}
@@ -31,7 +31,7 @@ unfoldable pub decoded : List ℕ → Seat
 decoded image =
     record {
       n = get_or image 0 0 / 16 + 1;
-      own = seatNo (get_or image 0 0 % 16 + 1);
+      own = seat_no (get_or image 0 0 % 16 + 1);
       past = fields_at 2 image past_at;
       barrier = fields_at 2 image barrier_at;
       run = fields_at 2 image run_at;

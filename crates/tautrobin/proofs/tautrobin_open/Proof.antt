@@ -3,7 +3,7 @@ use mathlib.Core.Path.{◌≡◌, sym, ◌∙◌}
 use mathlib.Core.Bool.{true}
 use native.Mathlib.Omega.{arith}
 use borrow.Author.Tests.{not-true, not-false}
-use Rattle.answers.specs.Answers.{seatNo}
+use Rattle.answers.specs.Answers.{seat_no}
 use Rattle.packet.specs.Writing.{in_range}
 use Rattle.tautrobin.proofs.OpenCall.{no_seat_above, no_such_seat_is_20, open_wrong_length_is_10, open_steps, stepped_open_is_numbered, refused_open_call, stepped_open_call}
 use borrow.Author.Rules.{rules}
@@ -11,7 +11,7 @@ use Rattle.tautrobin.proofs.tautrobin_open.Statement.{statement}
 use Rattle.tautrobin.proofs.tautrobin_open.Tie as tie
 
 -- where n and the own number are in range
-range : (c : tie.Else3) → let a = c.before.before.before.before.before.before.args in in_range (record { n = a.n; sender = seatNo a.own }) ≡ true
+range : (c : tie.Else3) → let a = c.before.before.before.before.before.before.args in in_range (record { n = a.n; sender = seat_no a.own }) ≡ true
 range c = sym c.before.is_in_range.ensures ∙ not-false _ c.if3.false
 
 returns : tie.Need-returns
