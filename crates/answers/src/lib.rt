@@ -1,17 +1,19 @@
 // What a call answers, and the numbers of seats and edits that answers speak of (document 01, "Answer numbers").
+#![tactic(auto)]
+
 ghost use Rattle.std.specs.Prelude.{◌≡◌};
 ghost use Rattle.answers.specs.Answers.{refusal_number, bare, report};
 
 // A seat's number, 1 to n.
-#[derive(Drop)]
+#[derive(Clone, Copy)]
 pub struct SeatNo(pub u8);
 
 // An edit's sequence number among its sender's, from 1.
-#[derive(Drop)]
+#[derive(Clone, Copy)]
 pub struct EditNo(pub u16);
 
 // An edit that a call is done with: who sent it, its number, and the length of its packet or body.
-#[derive(Drop)]
+#[derive(Clone, Copy)]
 pub struct Edit {
     pub sender: SeatNo,
     pub number: EditNo,
@@ -19,7 +21,7 @@ pub struct Edit {
 }
 
 // Why a call refused. A refusal changes nothing.
-#[derive(Drop)]
+#[derive(Clone, Copy)]
 pub enum Refusal {
     NotSound,
     BodyTooLong,
@@ -35,7 +37,7 @@ pub enum Refusal {
     BarrierAbovePast,
 }
 
-#[derive(Drop)]
+#[derive(Clone, Copy)]
 pub enum Answer {
     Opened,
     Done(Edit),
@@ -45,7 +47,7 @@ pub enum Answer {
 }
 
 // An answer in document 01's numbers: an edit of zeros where it names none.
-#[derive(Drop)]
+#[derive(Clone, Copy)]
 pub struct Report {
     pub answer: u8,
     pub edit: Edit,

@@ -1,11 +1,13 @@
 // The lines of a step list (document 01, "The step-list program"). A line is the bytes before its line feed.
+#![tactic(auto)]
+
 pub mod answer;
 
 ghost use Rattle.std.specs.Prelude.{◌≡◌, true, ◌-◌, ◌≤◌};
 ghost use Rattle.lines.specs.Lines.{WordEnd, words, is_digit, digits_alone, is_number, number_in, is_letter, read_send, read_arrival, read_release, read_step, read_opening};
 
 // The kind that a send line names.
-#[derive(Drop)]
+#[derive(Clone, Copy)]
 pub enum Letter {
     Ordinary,
     Causal,
@@ -13,7 +15,7 @@ pub enum Letter {
 }
 
 // What a line after the first says.
-#[derive(Drop)]
+#[derive(Clone, Copy)]
 pub enum Step {
     Send(u32, Letter),
     Arrive(u32, u32, u32),
@@ -22,7 +24,7 @@ pub enum Step {
 }
 
 // What line one says: n and the slots of every shelf.
-#[derive(Drop)]
+#[derive(Clone, Copy)]
 pub enum Opening {
     Session(u32, u32),
     Bad,

@@ -1,4 +1,6 @@
 // The packet that carries an edit over the link: reading it, its body, and writing it (document 01, "Packet").
+#![tactic(auto)]
+
 mod layout;
 mod points;
 
@@ -18,35 +20,35 @@ pub const HEAD_LEN: usize = 3;
 // The most bytes that a body has.
 pub const BODY_MOST: usize = 200;
 
-#[derive(Drop)]
+#[derive(Clone, Copy)]
 pub enum Kind {
     Ordinary,
     Causal,
 }
 
 // What writing takes beside the kind.
-#[derive(Drop)]
+#[derive(Clone, Copy)]
 pub struct Header {
     pub n: u8,
     pub sender: SeatNo,
 }
 
 // What reading finds: the header with its kind.
-#[derive(Drop)]
+#[derive(Clone, Copy)]
 pub struct Heading {
     pub n: u8,
     pub sender: SeatNo,
     pub kind: Kind,
 }
 
-#[derive(Drop)]
+#[derive(Clone, Copy)]
 pub enum ReadAnswer {
     Refused,
     Packet(Heading),
 }
 
 // The vectors are 0 above n, and all 0 on a refusal.
-#[derive(Drop)]
+#[derive(Clone, Copy)]
 pub struct Reading {
     pub answer: ReadAnswer,
     pub past: [u16; 16],

@@ -1,5 +1,7 @@
 // Reads and writes packets by hand and prints what was found: the packet of document 01's P4, bodies of 200 and of
 // 201 bytes, an empty packet, and P4's packet broken at each of the eight points.
+#![tactic(auto)]
+
 use answers::{Answer, Refusal, SeatNo};
 use io::{print_decimal, print_hex};
 use packet::{Header, Heading, Kind, ReadAnswer};

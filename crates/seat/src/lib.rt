@@ -1,4 +1,6 @@
 // A seat of a shared session: its state, and the four steps open, send, arrive and release (document 01, "The steps").
+#![tactic(auto)]
+
 mod arrival;
 mod sending;
 mod state;
@@ -26,7 +28,7 @@ use taking::take;
 pub const COUNT_MOST: u16 = 65535;
 
 // The state by value. Entry k - 1 of each array is seat k's.
-#[derive(Drop)]
+#[derive(Clone, Copy)]
 pub struct Seat {
     pub n: u8,
     pub own: SeatNo,
@@ -37,7 +39,7 @@ pub struct Seat {
 }
 
 // The kind that a sender wishes for.
-#[derive(Drop)]
+#[derive(Clone, Copy)]
 pub enum Wish {
     Ordinary,
     Causal,
@@ -45,7 +47,7 @@ pub enum Wish {
 }
 
 // What a step answers, and the next state.
-#[derive(Drop)]
+#[derive(Clone, Copy)]
 pub struct Stepped {
     pub seat: Seat,
     pub answer: Answer,

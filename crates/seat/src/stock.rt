@@ -21,7 +21,7 @@ const NO_KEY: u32 = 4294967295;
 // What one look over the slots finds: whether they are sound; the numbers that are handed over or on the shelf, a word
 // for each sender, laid out as ahead is; where a packet is to be chosen, the slot of the ready one that comes first, and
 // that packet's key.
-#[derive(Drop)]
+#[derive(Clone, Copy)]
 pub struct Stock {
     pub sound: bool,
     pub marks: [u64; 16],
@@ -30,7 +30,7 @@ pub struct Stock {
 }
 
 // The same but for the words, which are gathered beside it.
-#[derive(Drop)]
+#[derive(Clone, Copy)]
 pub struct Seen {
     pub sound: bool,
     pub first: usize,

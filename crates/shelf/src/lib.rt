@@ -1,5 +1,7 @@
 // A shelf: a lent buffer of whole slots, each all zero (free), or a byte 1, a packet, and zeros to its end. What a packet
 // says is not known here. The loops over bytes have no early exit, so that the compiler makes wide code of them.
+#![tactic(auto)]
+
 ghost use Rattle.std.specs.Prelude.{◌≡◌, ◌+◌, ◌*◌, ◌-◌, ◌≤◌, ◌<◌, eqb, length, get_or, replicate};
 ghost use Rattle.std.proofs.lemmas.List.Edits.{sets};
 ghost use Rattle.vectors.specs.Vectors.{all};

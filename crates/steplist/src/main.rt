@@ -1,4 +1,6 @@
 // Walks a step list from standard input, and prints what each step is answered (document 01, "The step-list program").
+#![tactic(auto)]
+
 ghost use Rattle.std.specs.Prelude.{◌+◌, ◌≤◌, ◌≡◌, length};
 ghost use Rattle.steps.specs.Memory.{shelves_size, packets_size};
 ghost use Rattle.steps.specs.Course.{number_most, Ready};
@@ -10,7 +12,7 @@ use steps::list::{Course, finish, is_over, no_packets, no_shelves, start, take_p
 const PRINTED: usize = 143360;
 
 // How far the list has come, and whether more of it is asked for.
-#[derive(Drop)]
+#[derive(Clone, Copy)]
 struct Step {
     course: Course,
     more: bool,

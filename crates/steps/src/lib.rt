@@ -1,4 +1,6 @@
 // Walking a step list (document 01, "The step-list program").
+#![tactic(auto)]
+
 pub mod list;
 mod opening;
 mod walk;

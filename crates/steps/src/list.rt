@@ -19,14 +19,14 @@ use vectors::bytes::put_bytes;
 const LINE_MOST: usize = 20;
 
 // The part of a line that has come so far.
-#[derive(Drop)]
+#[derive(Clone, Copy)]
 pub struct Line {
     pub bytes: [u8; 20],
     pub length: usize,
 }
 
 // Before line one, after it, and after a bad one.
-#[derive(Drop)]
+#[derive(Clone, Copy)]
 pub enum Stage {
     First,
     Walking,
@@ -34,7 +34,7 @@ pub enum Stage {
 }
 
 // How far a list has come. The number is that of the next step.
-#[derive(Drop)]
+#[derive(Clone, Copy)]
 pub struct Course {
     pub stage: Stage,
     pub number: u64,
@@ -43,14 +43,14 @@ pub struct Course {
 }
 
 // How far the list has come after a line, and where the output ends.
-#[derive(Drop)]
+#[derive(Clone, Copy)]
 pub struct Taken {
     pub course: Course,
     pub end: usize,
 }
 
 // The same, and the place in the text that comes next.
-#[derive(Drop)]
+#[derive(Clone, Copy)]
 pub struct Went {
     pub course: Course,
     pub end: usize,

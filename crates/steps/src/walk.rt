@@ -19,7 +19,7 @@ pub const SENDS_MOST: usize = 256;
 
 // A session of n seats, each with a shelf of so many slots. Seat k's state stands at index k - 1, and its shelf at that
 // place of the shelves. Packet i was the i-th that was sent.
-#[derive(Drop)]
+#[derive(Clone, Copy)]
 pub struct Walk {
     pub n: u8,
     pub slots: usize,
@@ -31,7 +31,7 @@ pub struct Walk {
 }
 
 // What a step was answered, and the walk after it.
-#[derive(Drop)]
+#[derive(Clone, Copy)]
 pub struct Walked {
     pub walk: Walk,
     pub report: Report,

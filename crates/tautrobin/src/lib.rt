@@ -1,4 +1,6 @@
 // The four steps, exported to C on numbers and byte slices (document 01, "For the package, which is written in C").
+#![tactic(auto)]
+
 mod image;
 
 ghost use Rattle.std.specs.Prelude.{◌≡◌, ◌≤◌, length};

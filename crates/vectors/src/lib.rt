@@ -1,5 +1,7 @@
 // Vectors of 16 numbers, one for each seat, and tests over every entry. The loops have no early exit, so that the
 // compiler makes wide code of them.
+#![tactic(auto)]
+
 pub mod bytes;
 mod turning;
 

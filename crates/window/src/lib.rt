@@ -1,12 +1,14 @@
 // Run and ahead of one sender (document 01, "Numbers of a seat"): which of its edits are handed over, and handing over
 // one more.
+#![tactic(auto)]
+
 ghost use Rattle.std.specs.Prelude.{◌≡◌, true, ◌+◌, ◌≤◌, ◌<◌};
 ghost use Rattle.window.specs.Window.{place, handed, none_above, sound_window, marked, advanced, handed_over};
 
 use answers::EditNo;
 
 // Every number up to run is handed over, and so is run + 1 + b where bit b of ahead is set, least significant first.
-#[derive(Drop)]
+#[derive(Clone, Copy)]
 pub struct Window {
     pub run: u16,
     pub ahead: u64,
