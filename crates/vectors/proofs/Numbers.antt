@@ -1,6 +1,6 @@
 -- Laws of numbers as bytes, over the width: lengths, what is read where something was written and the other way
 -- round, and the loops that read a number, store one, and write one piece after another.
-use Prim.Native.Nat.{ℕ, zero, suc, ◌+◌, ◌*◌, ◌-◌, ◌/◌, ◌%◌, ◌^◌, ◌≤◌, ◌<◌}
+use Prim.Native.Nat.{ℕ, zero, suc, ◌+◌, ◌*◌, ◌/◌, ◌%◌, ◌^◌, ◌≤◌, ◌<◌}
 use mathlib.Core.Path.{◌≡◌, refl, sym, ap, ap₂, ◌∙◌}
 use mathlib.Core.List.{List, [], ◌∷◌, ◌++◌, append_assoc, append-nil}
 use native.Mathlib.Nat.{add-zero, add-suc, suc-add, zero-add, add_comm, mul-zero, mul-suc, mul-le-mul_left, pow-suc, mod-one, mod-eq_of_lt, le_antisymm, le_of_suc-le-suc, not-suc-le-zero}
