@@ -1,5 +1,5 @@
 -- Reading as plain facts: what it answers in each case, and what a caller knows once it has matched on the answer.
-use Prim.Native.Nat.{ℕ, ◌-◌, ◌≤◌}
+use Prim.Native.Nat.{ℕ, ◌≤◌}
 use mathlib.Core.Path.{◌≡◌, refl, sym, ap, ◌∙◌}
 use mathlib.Core.Bool.{true}
 use mathlib.Core.List.{List, []}

@@ -49,34 +49,34 @@ module _ {n : ℕ} {places : ℕ → Place} {letters : List Letter} {trace : Tra
     arrival_step : {answer : Answer} → arrival.ArrivalTold seat shelf letter.bytes answer → (next : Seat) (left : List ℕ) → next ≡ seat_after answer handed_seat seat
         → left ≡ shelf_after answer letter.bytes shelf → SoundPlace next left
         → Goes n (place_with next left) letters (trace_after_arrival (answer_number answer) j (reported answer) letter.edit trace)
-    arrival_step (arrival.done told so) next left is-next is-left sound =
+    arrival_step (arrival.done told so) next left is_next is_left sound =
         let packet = letter.bytes in
         let edits : edit model packet ≡ reported (Done told) =
         edit_is packet ∙ ap (λ (x : answers.Edit). record { by = x.sender.0; number = x.number.0 }) so.edit_is in
         let place : Place = record { seat = next; shelf = left } in
-        let is-place : ◌≡◌ {A = Place} (record { seat = handed_seat; shelf = shelf }) place = (λ i. record { seat = sym is-next i; shelf = sym is-left i }) in
-        let step = subst (Takes model packet (places j)) is-place (arrival_takes seat shelf packet here.sound arrived_packet_lem.counts told so) in
+        let is_place : ◌≡◌ {A = Place} (record { seat = handed_seat; shelf = shelf }) place = (λ i. record { seat = sym is_next i; shelf = sym is_left i }) in
+        let step = subst (Takes model packet (places j)) is_place (arrival_takes seat shelf packet here.sound arrived_packet_lem.counts told so) in
         record {
           run = subst (λ (e : Edit). Run model n (place_with next left) (packets_of letters) (handed events.arrival j e ∷ trace)) edits
               (takes j packet so_far.run seated (letter_in_lem mail) (turn_of j place places (Takes model packet) step));
-          placed = placed_after so_far j seated next left sound (ap (λ (s : Seat). s.own) is-next ∙ handing_over_keeps_own seat (heading_of packet) (past_of packet) (barrier_of packet));
+          placed = placed_after so_far j seated next left sound (ap (λ (s : Seat). s.own) is_next ∙ handing_over_keeps_own seat (heading_of packet) (past_of packet) (barrier_of packet));
           posted = so_far.posted;
         }
-    arrival_step (arrival.shelved so) next left is-next is-left sound =
+    arrival_step (arrival.shelved so) next left is_next is_left sound =
         let packet = letter.bytes in
         let place : Place = record { seat = next; shelf = left } in
-        let is-place : ◌≡◌ {A = Place} (record { seat = seat; shelf = laid shelf (lowest_free shelf) (slot_of packet) }) place = (λ i. record { seat = sym is-next i; shelf = sym is-left i }) in
-        let step = subst (Shelves model packet (places j)) is-place (arrival_shelves seat shelf packet so) in
+        let is_place : ◌≡◌ {A = Place} (record { seat = seat; shelf = laid shelf (lowest_free shelf) (slot_of packet) }) place = (λ i. record { seat = sym is_next i; shelf = sym is_left i }) in
+        let step = subst (Shelves model packet (places j)) is_place (arrival_shelves seat shelf packet so) in
         record {
           run = subst (λ (e : Edit). Run model n (place_with next left) (packets_of letters) (shelved j e ∷ trace)) arrived_packet_lem.same
               (shelves j packet so_far.run seated (letter_in_lem mail) (turn_of j place places (Shelves model packet) step));
-          placed = placed_after so_far j seated next left sound (ap (λ (s : Seat). s.own) is-next);
+          placed = placed_after so_far j seated next left sound (ap (λ (s : Seat). s.own) is_next);
           posted = so_far.posted;
         }
-    arrival_step (arrival.refused refusal) next left is-next is-left sound =
+    arrival_step (arrival.refused refusal) next left is_next is_left sound =
         subst (λ (t : Trace). Goes n (place_with next left) letters t)
         (sym (refused_arrival_tells_nothing (refusal_number refusal) (refusals_are_from_10 refusal) j (reported (Refused refusal)) letter.edit trace))
-        (stays so_far j seated next left is-next is-left)
+        (stays so_far j seated next left is_next is_left)
 
     -- One arrival more.
     pub after_an_arrival : (stepped : Stepped) (left : List ℕ) → Arrived seat letter.bytes shelf stepped left

@@ -49,33 +49,33 @@ module _ {n : ℕ} {places : ℕ → Place} {letters : List Letter} {trace : Tra
   release_step : (out : List ℕ) {answer : Answer} → release.ReleaseTold seat shelf out answer → (next : Seat) (left : List ℕ)
       → next ≡ seat_after answer handed_seat seat → left ≡ shelf_after_release answer seat shelf → SoundPlace next left
       → Goes n (place_with next left) letters (trace_after_release (answer_number answer) j (reported answer) trace)
-  release_step out (release.done told so) next left is-next is-left sound =
+  release_step out (release.done told so) next left is_next is_left sound =
       let edits : edit model released ≡ reported (Done told) =
       edit_is released ∙ ap (λ (x : answers.Edit). record { by = x.sender.0; number = x.number.0 }) so.edit_is in
       let place : Place = record { seat = next; shelf = left } in
-      let is-place : ◌≡◌ {A = Place}
+      let is_place : ◌≡◌ {A = Place}
       (record { seat = handed_seat; shelf = laid shelf (chosen seat shelf) free_slot }) place =
-      (λ i. record { seat = sym is-next i; shelf = sym is-left i }) in
-      let step = subst (Releases model released (places j)) is-place (release_releases seat shelf here.sound out told so) in
+      (λ i. record { seat = sym is_next i; shelf = sym is_left i }) in
+      let step = subst (Releases model released (places j)) is_place (release_releases seat shelf here.sound out told so) in
       record {
         run = subst (λ (e : Edit). Run model n (place_with next left) (packets_of letters) (handed events.release j e ∷ trace)) edits
             (releases j released so_far.run seated (turn_of j place places (Releases model released) step));
-        placed = placed_after so_far j seated next left sound (ap (λ (s : Seat). s.own) is-next ∙ handing_over_keeps_own seat (heading_of released) (past_of released) (barrier_of released));
+        placed = placed_after so_far j seated next left sound (ap (λ (s : Seat). s.own) is_next ∙ handing_over_keeps_own seat (heading_of released) (past_of released) (barrier_of released));
         posted = so_far.posted;
       }
-  release_step out (release.idle so) next left is-next is-left sound =
-      let gone = stays so_far j seated next left is-next is-left in
-      let is-here : places j ≡ place_with next left j =
-      (λ i. record { seat = sym is-next i; shelf = sym is-left i }) ∙ sym (moved_here j (record { seat = next; shelf = left }) places) in
+  release_step out (release.idle so) next left is_next is_left sound =
+      let gone = stays so_far j seated next left is_next is_left in
+      let is_here : places j ≡ place_with next left j =
+      (λ i. record { seat = sym is_next i; shelf = sym is_left i }) ∙ sym (moved_here j (record { seat = next; shelf = left }) places) in
       record {
-        run = rests j gone.run seated (subst (Rests model) is-here (idle_rests seat shelf here.sound so));
+        run = rests j gone.run seated (subst (Rests model) is_here (idle_rests seat shelf here.sound so));
         placed = gone.placed;
         posted = gone.posted;
       }
-  release_step out (release.refused refusal) next left is-next is-left sound =
+  release_step out (release.refused refusal) next left is_next is_left sound =
       subst (λ (t : Trace). Goes n (place_with next left) letters t)
       (sym (refused_release_tells_nothing (refusal_number refusal) (refusals_are_from_10 refusal) j (reported (Refused refusal)) trace))
-      (stays so_far j seated next left is-next is-left)
+      (stays so_far j seated next left is_next is_left)
 
   -- One release more.
   pub after_a_release : (out : List ℕ) (stepped : Stepped) (left output : List ℕ) → Released seat shelf out stepped left output

@@ -61,11 +61,11 @@ module _ (seat : Seat) (shelf packet : List ℕ) where
         gives_17 again = heard ∙ refused_17 seat (heading_of packet) (past_of packet) (repeats seat shelf packet) settled same (le-ltb _ _ own) ((repeats_agrees seat shelf packet).0 again)
 
         gives_18 : (Repeats seat shelf packet → ⊥) → (Near seat packet → ⊥) → answer ≡ Refused TooFarAhead
-        gives_18 new far =
+        gives_18 is_new far =
             let more : entry seat.run (sender_of packet) + 64 < number_of packet =
             elim (dec_lt (entry seat.run (sender_of packet) + 64) (number_of packet)) [ yes is ↦ is | no less ↦ absurd (far (omega arith)) ] in
             heard
-            ∙ refused_18 seat (heading_of packet) (past_of packet) (repeats seat shelf packet) settled same (le-ltb _ _ own) (fails _ (repeats_agrees seat shelf packet) new)
+            ∙ refused_18 seat (heading_of packet) (past_of packet) (repeats seat shelf packet) settled same (le-ltb _ _ own) (fails _ (repeats_agrees seat shelf packet) is_new)
             (lt-ltb _ _ more)
 
   module _ (a : Admitted seat shelf packet) where
@@ -73,17 +73,17 @@ module _ (seat : Seat) (shelf packet : List ℕ) where
     admitted =
         heard a.sound a.is_well_formed
         ∙ passes_all seat (heading_of packet) (past_of packet) (repeats seat shelf packet) settled a.same_session (le-ltb _ _ a.within_own_count)
-        (fails _ (repeats_agrees seat shelf packet) a.new) (le-ltb _ _ a.near)
+        (fails _ (repeats_agrees seat shelf packet) a.is_new) (le-ltb _ _ a.near)
 
     gives_23 : Ready seat packet → (BarrierStays seat packet → ⊥) → answer ≡ Refused BarrierAbovePast
-    gives_23 now leaves =
+    gives_23 ready leaves =
         admitted
-        ∙ ready_refused seat shelf (heading_of packet) (past_of packet) (barrier_of packet) (edit_handed packet) ((ready_agrees seat packet).0 now) (leaves_is_above seat packet leaves)
+        ∙ ready_refused seat shelf (heading_of packet) (past_of packet) (barrier_of packet) (edit_handed packet) ((ready_agrees seat packet).0 ready) (leaves_is_above seat packet leaves)
 
     pub ready_arrival_is_done : Ready seat packet → BarrierStays seat packet → answer ≡ Done (edit_handed packet)
-    ready_arrival_is_done now stays =
+    ready_arrival_is_done ready stays =
         admitted
-        ∙ ready_done seat shelf (heading_of packet) (past_of packet) (barrier_of packet) (edit_handed packet) ((ready_agrees seat packet).0 now) (stays_is_not_above seat packet stays)
+        ∙ ready_done seat shelf (heading_of packet) (past_of packet) (barrier_of packet) (edit_handed packet) ((ready_agrees seat packet).0 ready) (stays_is_not_above seat packet stays)
 
     gives_19 : (Ready seat packet → ⊥) → (FreeSlot shelf → ⊥) → answer ≡ Refused ShelfFull
     gives_19 waits none =
@@ -124,24 +124,24 @@ module _ (seat : Seat) (shelf packet : List ℕ) where
       ]
 
   by_barrier : Admitted seat shelf packet → Ready seat packet → occasion (answer_number answer)
-  by_barrier a now =
+  by_barrier a ready =
       elim (stays_decided seat packet) [
-        | inl stays ↦ subst occasion (sym (ap answer_number (ready_arrival_is_done a now stays))) (a, now, stays)
-        | inr leaves ↦ subst occasion (sym (ap answer_number (gives_23 a now leaves))) (a, now, leaves)
+        | inl stays ↦ subst occasion (sym (ap answer_number (ready_arrival_is_done a ready stays))) (a, ready, stays)
+        | inr leaves ↦ subst occasion (sym (ap answer_number (gives_23 a ready leaves))) (a, ready, leaves)
       ]
 
   by_ready : Admitted seat shelf packet → occasion (answer_number answer)
-  by_ready a = elim (decided _ (ready_agrees seat packet)) [ inl now ↦ by_barrier a now | inr waits ↦ by_shelf a waits ]
+  by_ready a = elim (decided _ (ready_agrees seat packet)) [ inl ready ↦ by_barrier a ready | inr waits ↦ by_shelf a waits ]
 
   module _ (sound : Sound seat shelf) (well : WellFormed packet) where
     by_number : SameSession seat packet → WithinOwnCount seat packet → occasion (answer_number answer)
     by_number same own =
         elim (decided _ (repeats_agrees seat shelf packet)) [
           | inl again ↦ subst occasion (sym (ap answer_number (gives_17 sound well same own again))) (sound, well, same, own, again)
-          | inr new ↦ elim (dec_lt (entry seat.run (sender_of packet) + 64) (number_of packet)) [
+          | inr is_new ↦ elim (dec_lt (entry seat.run (sender_of packet) + 64) (number_of packet)) [
             | yes far ↦ let never : Near seat packet → ⊥ = λ near. omega arith in
-                subst occasion (sym (ap answer_number (gives_18 sound well same own new never))) (sound, well, same, own, new, never)
-            | no less ↦ by_ready (record { sound = sound; is_well_formed = well; same_session = same; within_own_count = own; new = new; near = omega arith })
+                subst occasion (sym (ap answer_number (gives_18 sound well same own is_new never))) (sound, well, same, own, is_new, never)
+            | no less ↦ by_ready (record { sound = sound; is_well_formed = well; same_session = same; within_own_count = own; is_new = is_new; near = omega arith })
           ]
         ]
 

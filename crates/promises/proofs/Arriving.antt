@@ -65,7 +65,7 @@ module _ (seat : Seat) (shelf packet : List ℕ) where
         shelf_after_is = λ p. (
           λ (i, at).
               elim (laying_adds_one shelf free packet so.there so.free passing.is_well_formed p i at) [
-                | inl old ↦ inl (i, old)
+                | inl was ↦ inl (i, was)
                 | inr (here, is) ↦ inr is
               ],
           λ either.

@@ -1,5 +1,5 @@
 -- No call reads a body.
-use Prim.Native.Nat.{ℕ, ◌+◌, ◌-◌, ◌<◌}
+use Prim.Native.Nat.{ℕ, ◌+◌, ◌<◌}
 use mathlib.Core.Path.{◌≡◌, refl, sym, ap, ◌∙◌}
 use mathlib.Core.Logic.{inl, inr}
 use mathlib.Core.Bool.{Bool, cond, not, ◌||◌}
@@ -84,10 +84,10 @@ module _ (kind : Kind) (header : Header) (past barrier body other out : List ℕ
   unfolding write_answer write_refusals
   same_write_answer = rw same
 
-  written_same : (answer answer-other : Answer) (after after-other : List ℕ) → Written kind header past barrier body out answer after
-      → Written kind header past barrier other out answer-other after-other → (answer ≡ answer-other) × SameButFor body other after after-other
+  written_same : (answer answer_other : Answer) (after after_other : List ℕ) → Written kind header past barrier body out answer after
+      → Written kind header past barrier other out answer_other after_other → (answer ≡ answer_other) × SameButFor body other after after_other
   unfolding write_output
-  written_same answer answer-other after after-other w v = (
+  written_same answer answer_other after after_other w v = (
     w.answered ∙ same_write_answer ∙ sym v.answered,
     rw (w.output, v.output, ← same_write_answer) (packets_same (write_answer kind header past barrier body out)),
   )
@@ -97,10 +97,10 @@ module _ (seat : Seat) (wish : Wish) (body other out : List ℕ) (same : length 
   unfolding send_answer send_refusals
   same_send_answer = rw same
 
-  sent_same : (stepped stepped-other : Stepped) (after after-other : List ℕ) → Sent seat wish body out stepped after
-      → Sent seat wish other out stepped-other after-other → (stepped ≡ stepped-other) × SameButFor body other after after-other
-  sent_same stepped stepped-other after after-other s t = (
-    same_step stepped stepped-other
+  sent_same : (stepped stepped_other : Stepped) (after after_other : List ℕ) → Sent seat wish body out stepped after
+      → Sent seat wish other out stepped_other after_other → (stepped ≡ stepped_other) × SameButFor body other after after_other
+  sent_same stepped stepped_other after after_other s t = (
+    same_step stepped stepped_other
         (s.next ∙ ap (λ (a : Answer). seat_after a (sent_seat seat (kind_of wish)) seat) same_send_answer ∙ sym t.next)
         (s.answered ∙ same_send_answer ∙ sym t.answered),
     rw (s.output, t.output, ← same_send_answer)
@@ -122,33 +122,33 @@ arrival_by_parts : (seat : Seat) (shelf packet : List ℕ)
 unfolding arrive_answer arrive_refusals admitted_answer wait_answer
 arrival_by_parts seat shelf packet = refl
 
-module _ (seat : Seat) (packet other shelf shelf-other : List ℕ) (alike : Alike packet other) (shelves : AlikeShelves shelf shelf-other) where
-  same_repeats : repeats seat shelf packet ≡ repeats seat shelf-other other
+module _ (seat : Seat) (packet other shelf shelf_other : List ℕ) (alike : Alike packet other) (shelves : AlikeShelves shelf shelf_other) where
+  same_repeats : repeats seat shelf packet ≡ repeats seat shelf_other other
   same_repeats =
       (λ i. is_handed seat (same_sender packet other alike i) (same_number packet other alike i) || on_shelf shelf (same_sender packet other alike i) (same_number packet other alike i))
-      ∙ ap (λ (on : Bool). is_handed seat (sender_of other) (number_of other) || on) (same_on_shelf shelf shelf-other shelves (sender_of other) (number_of other))
+      ∙ ap (λ (on : Bool). is_handed seat (sender_of other) (number_of other) || on) (same_on_shelf shelf shelf_other shelves (sender_of other) (number_of other))
 
-  same_arrival : arrive_answer seat shelf packet ≡ arrive_answer seat shelf-other other
+  same_arrival : arrive_answer seat shelf packet ≡ arrive_answer seat shelf_other other
   same_arrival =
       arrival_by_parts seat shelf packet
       ∙ (λ i.
-      arrival_by seat (same_sound shelf shelf-other shelves seat i) (same_point packet other alike i) (same_heading packet other alike i) (same_past packet other alike i)
-      (same_barrier packet other alike i) (same_repeats i) (same_lowest_free shelf shelf-other shelves i) (same_slots shelf shelf-other shelves i)
+      arrival_by seat (same_sound shelf shelf_other shelves seat i) (same_point packet other alike i) (same_heading packet other alike i) (same_past packet other alike i)
+      (same_barrier packet other alike i) (same_repeats i) (same_lowest_free shelf shelf_other shelves i) (same_slots shelf shelf_other shelves i)
       (same_edit packet other alike i))
-      ∙ sym (arrival_by_parts seat shelf-other other)
+      ∙ sym (arrival_by_parts seat shelf_other other)
 
   shelves_same : (answer : Answer)
-      → SameSlotChanges shelf shelf-other (shelf_after answer packet shelf) (shelf_after answer other shelf-other) (lowest_free shelf) (slot_of packet) (slot_of other)
-  shelves_same Shelved = inr (refl, rw (same_lowest_free shelf shelf-other shelves))
+      → SameSlotChanges shelf shelf_other (shelf_after answer packet shelf) (shelf_after answer other shelf_other) (lowest_free shelf) (slot_of packet) (slot_of other)
+  shelves_same Shelved = inr (refl, rw (same_lowest_free shelf shelf_other shelves))
   shelves_same Opened = inl (refl, refl)
   shelves_same (Done edit) = inl (refl, refl)
   shelves_same NothingReady = inl (refl, refl)
   shelves_same (Refused refusal) = inl (refl, refl)
 
-  arrived_same : (stepped stepped-other : Stepped) (after after-other : List ℕ) → Arrived seat packet shelf stepped after → Arrived seat other shelf-other stepped-other after-other
-      → (stepped ≡ stepped-other) × ((i : ℕ) × SameSlotChanges shelf shelf-other after after-other i (slot_of packet) (slot_of other))
-  arrived_same stepped stepped-other after after-other a b = (
-    same_step stepped stepped-other
+  arrived_same : (stepped stepped_other : Stepped) (after after_other : List ℕ) → Arrived seat packet shelf stepped after → Arrived seat other shelf_other stepped_other after_other
+      → (stepped ≡ stepped_other) × ((i : ℕ) × SameSlotChanges shelf shelf_other after after_other i (slot_of packet) (slot_of other))
+  arrived_same stepped stepped_other after after_other a b = (
+    same_step stepped stepped_other
         (a.next
         ∙ (λ i. seat_after (same_arrival i) (hand_over seat (same_heading packet other alike i) (same_past packet other alike i) (same_barrier packet other alike i)) seat)
         ∙ sym b.next)
@@ -174,41 +174,41 @@ release_by_parts : (seat : Seat) (shelf out : List ℕ)
 unfolding release_answer take_refusals
 release_by_parts seat shelf out = refl
 
-module _ (seat : Seat) (shelf shelf-other out : List ℕ) (shelves : AlikeShelves shelf shelf-other) where
+module _ (seat : Seat) (shelf shelf_other out : List ℕ) (shelves : AlikeShelves shelf shelf_other) where
   abbrev at : ℕ
   at = chosen seat shelf
 
-  taken_alike : at < slots shelf → Alike (packet_at shelf at) (packet_at shelf-other at)
+  taken_alike : at < slots shelf → Alike (packet_at shelf at) (packet_at shelf_other at)
   taken_alike there = shelves.same_packets at there (ready_slot_is_used seat shelf at (chosen_is_ready seat shelf there))
 
-  same_taking : at < slots shelf → taking_of seat out (packet_at shelf at) ≡ taking_of seat out (packet_at shelf-other (chosen seat shelf-other))
+  same_taking : at < slots shelf → taking_of seat out (packet_at shelf at) ≡ taking_of seat out (packet_at shelf_other (chosen seat shelf_other))
   same_taking there =
       let one = packet_at shelf at in
-      let other = packet_at shelf-other at in
+      let other = packet_at shelf_other at in
       let alike = taken_alike there in
       (λ i.
       taking_by seat out (same_body_length one other alike i) (same_heading one other alike i) (same_past one other alike i) (same_barrier one other alike i)
       (same_edit one other alike i))
-      ∙ ap (λ (k : ℕ). taking_of seat out (packet_at shelf-other k)) (same_chosen shelf shelf-other shelves seat)
+      ∙ ap (λ (k : ℕ). taking_of seat out (packet_at shelf_other k)) (same_chosen shelf shelf_other shelves seat)
 
-  same_release : release_answer seat shelf out ≡ release_answer seat shelf-other out
+  same_release : release_answer seat shelf out ≡ release_answer seat shelf_other out
   same_release =
-      let sound = same_sound shelf shelf-other shelves seat in
-      let here = same_chosen shelf shelf-other shelves seat in
-      let count = same_slots shelf shelf-other shelves in
+      let sound = same_sound shelf shelf_other shelves seat in
+      let here = same_chosen shelf shelf_other shelves seat in
+      let count = same_slots shelf shelf_other shelves in
       elim (dec_lt at (slots shelf)) [
-        | yes there ↦ release_by_parts seat shelf out ∙ (λ i. release_by (sound i) (here i) (count i) (same_taking there i)) ∙ sym (release_by_parts seat shelf-other out)
+        | yes there ↦ release_by_parts seat shelf out ∙ (λ i. release_by (sound i) (here i) (count i) (same_taking there i)) ∙ sym (release_by_parts seat shelf_other out)
         | no more ↦ let none : at ≡ slots shelf = omega (arith, chosen_is_at_most_slots seat shelf) in
-            let also : chosen seat shelf-other ≡ slots shelf-other = sym here ∙ none ∙ count in
+            let also : chosen seat shelf_other ≡ slots shelf_other = sym here ∙ none ∙ count in
             release_by_parts seat shelf out
-            ∙ rw (eq-eqb at (slots shelf) none, eq-eqb (chosen seat shelf-other) (slots shelf-other) also)
+            ∙ rw (eq-eqb at (slots shelf) none, eq-eqb (chosen seat shelf_other) (slots shelf_other) also)
             (ap (λ (b : Bool). first_of ((NotSound, not b) ∷ []) NothingReady) sound)
-            ∙ sym (release_by_parts seat shelf-other out)
+            ∙ sym (release_by_parts seat shelf_other out)
       ]
 
   shelves_left_same : (answer : Answer)
-      → SameSlotChanges shelf shelf-other (shelf_after_release answer seat shelf) (shelf_after_release answer seat shelf-other) at free_slot free_slot
-  shelves_left_same (Done edit) = inr (refl, rw (same_chosen shelf shelf-other shelves seat))
+      → SameSlotChanges shelf shelf_other (shelf_after_release answer seat shelf) (shelf_after_release answer seat shelf_other) at free_slot free_slot
+  shelves_left_same (Done edit) = inr (refl, rw (same_chosen shelf shelf_other shelves seat))
   shelves_left_same Opened = inl (refl, refl)
   shelves_left_same Shelved = inl (refl, refl)
   shelves_left_same NothingReady = inl (refl, refl)
@@ -225,11 +225,11 @@ module _ (seat : Seat) (shelf shelf-other out : List ℕ) (shelves : AlikeShelve
   body = body_of (packet_at shelf at)
 
   abbrev body_other : List ℕ
-  body_other = body_of (packet_at shelf-other at)
+  body_other = body_of (packet_at shelf_other at)
 
   outputs_same : (answer : Answer) → release_answer seat shelf out ≡ answer → SameButFor body body_other (output_after answer body out) (output_after answer body_other out)
   outputs_same (Done edit) is =
-      output_same [] body body_other out (same_body_length (packet_at shelf at) (packet_at shelf-other at) (taken_alike (done_is_there (ap answer_number is)))) (Done edit)
+      output_same [] body body_other out (same_body_length (packet_at shelf at) (packet_at shelf_other at) (taken_alike (done_is_there (ap answer_number is)))) (Done edit)
   outputs_same Opened is = inl refl
   outputs_same Shelved is = inl refl
   outputs_same NothingReady is = inl refl
@@ -238,10 +238,10 @@ module _ (seat : Seat) (shelf shelf-other out : List ℕ) (shelves : AlikeShelve
   -- the next state after an answer
   next_same : (answer : Answer) → release_answer seat shelf out ≡ answer
       → seat_after answer (hand_over seat (heading_of (packet_at shelf at)) (past_of (packet_at shelf at)) (barrier_of (packet_at shelf at))) seat
-      ≡ seat_after answer (hand_over seat (heading_of (packet_at shelf-other at)) (past_of (packet_at shelf-other at)) (barrier_of (packet_at shelf-other at))) seat
+      ≡ seat_after answer (hand_over seat (heading_of (packet_at shelf_other at)) (past_of (packet_at shelf_other at)) (barrier_of (packet_at shelf_other at))) seat
   next_same (Done edit) is =
       let one = packet_at shelf at in
-      let other = packet_at shelf-other at in
+      let other = packet_at shelf_other at in
       let alike = taken_alike (done_is_there (ap answer_number is)) in
       (λ i. hand_over seat (same_heading one other alike i) (same_past one other alike i) (same_barrier one other alike i))
   next_same Opened is = refl
@@ -249,32 +249,32 @@ module _ (seat : Seat) (shelf shelf-other out : List ℕ) (shelves : AlikeShelve
   next_same NothingReady is = refl
   next_same (Refused refusal) is = refl
 
-  released_same : (stepped stepped-other : Stepped) (left left_other out-left out-other : List ℕ) → Released seat shelf out stepped left out-left
-      → Released seat shelf-other out stepped-other left_other out-other
-      → (stepped ≡ stepped-other)
-      × ((i : ℕ) × SameSlotChanges shelf shelf-other left left_other i free_slot free_slot
-      × SameButFor (body_of (packet_at shelf i)) (body_of (packet_at shelf-other i)) out-left out-other)
-  released_same stepped stepped-other left left_other out-left out-other r q =
+  released_same : (stepped stepped_other : Stepped) (left left_other out_left out_other : List ℕ) → Released seat shelf out stepped left out_left
+      → Released seat shelf_other out stepped_other left_other out_other
+      → (stepped ≡ stepped_other)
+      × ((i : ℕ) × SameSlotChanges shelf shelf_other left left_other i free_slot free_slot
+      × SameButFor (body_of (packet_at shelf i)) (body_of (packet_at shelf_other i)) out_left out_other)
+  released_same stepped stepped_other left left_other out_left out_other r q =
       let answer = release_answer seat shelf out in
-      let here = same_chosen shelf shelf-other shelves seat in
-      let next-other : stepped-other.seat
-      ≡ seat_after answer (hand_over seat (heading_of (packet_at shelf-other at)) (past_of (packet_at shelf-other at)) (barrier_of (packet_at shelf-other at))) seat =
+      let here = same_chosen shelf shelf_other shelves seat in
+      let next_other : stepped_other.seat
+      ≡ seat_after answer (hand_over seat (heading_of (packet_at shelf_other at)) (past_of (packet_at shelf_other at)) (barrier_of (packet_at shelf_other at))) seat =
       rw (← same_release, ← here) at q.next in
-      let left_is : left_other ≡ shelf_after_release answer seat shelf-other = q.shelf_after_is ∙ ap (λ (a : Answer). shelf_after_release a seat shelf-other) (sym same_release) in
-      let out-is : out-other ≡ output_after answer body_other out = rw (← same_release, ← here) at q.output in (
-        same_step stepped stepped-other (r.next ∙ next_same answer refl ∙ sym next-other) (r.answered ∙ same_release ∙ sym q.answered),
-        (at, rw (r.shelf_after_is, left_is) (shelves_left_same answer), rw (r.output, out-is) (outputs_same answer refl)),
+      let left_is : left_other ≡ shelf_after_release answer seat shelf_other = q.shelf_after_is ∙ ap (λ (a : Answer). shelf_after_release a seat shelf_other) (sym same_release) in
+      let out_is : out_other ≡ output_after answer body_other out = rw (← same_release, ← here) at q.output in (
+        same_step stepped stepped_other (r.next ∙ next_same answer refl ∙ sym next_other) (r.answered ∙ same_release ∙ sym q.answered),
+        (at, rw (r.shelf_after_is, left_is) (shelves_left_same answer), rw (r.output, out_is) (outputs_same answer refl)),
       )
 
 pub body_unread : BodyUnread
 body_unread =
     record {
-      writing = λ kind header past barrier body other out answer answer-other after after-other same.
-          written_same kind header past barrier body other out same answer answer-other after after-other;
+      writing = λ kind header past barrier body other out answer answer_other after after_other same.
+          written_same kind header past barrier body other out same answer answer_other after after_other;
       reading = λ packet other alike. (same_reading packet other alike, same_body_length packet other alike);
-      sending = λ seat wish body other out stepped stepped-other after after-other same. sent_same seat wish body other out same stepped stepped-other after after-other;
-      arriving = λ seat packet other shelf shelf-other stepped stepped-other after after-other alike shelves.
-          arrived_same seat packet other shelf shelf-other alike shelves stepped stepped-other after after-other;
-      releasing = λ seat shelf shelf-other out stepped stepped-other left left_other out-left out-other shelves.
-          released_same seat shelf shelf-other out shelves stepped stepped-other left left_other out-left out-other;
+      sending = λ seat wish body other out stepped stepped_other after after_other same. sent_same seat wish body other out same stepped stepped_other after after_other;
+      arriving = λ seat packet other shelf shelf_other stepped stepped_other after after_other alike shelves.
+          arrived_same seat packet other shelf shelf_other alike shelves stepped stepped_other after after_other;
+      releasing = λ seat shelf shelf_other out stepped stepped_other left left_other out_left out_other shelves.
+          released_same seat shelf shelf_other out shelves stepped stepped_other left left_other out_left out_other;
     }

@@ -48,7 +48,7 @@ arrival_rule seat packet shelf stepped after held a zero =
     let next : stepped.seat ≡ hand_over seat (heading_of packet) (past_of packet) (barrier_of packet) = rw is at a.next in (
       rw next
           (handing_over_is_the_rule seat packet admitted.sound.0 held (omega arith) (omega (arith, admitted.is_well_formed.point_4, admitted.same_session))
-          (λ over. admitted.new (inl over)) facts.1),
+          (λ over. admitted.is_new (inl over)) facts.1),
       rw is at a.shelf_after_is,
     )
 
@@ -62,11 +62,11 @@ shelving seat packet shelf stepped after a one =
     let is = waiting_arrival_is_shelved seat shelf packet facts.0 facts.1 facts.2 in
     (rw is at a.next, λ five. facts.1 (line_5_is_ready seat packet facts.0.sound.0 facts.0.same_session five), rw is at a.shelf_after_is)
 
-release_rule : (seat : Seat) (shelf out : List ℕ) (stepped : Stepped) (shelf-left out-left : List ℕ) → Held seat
-    → Released seat shelf out stepped shelf-left out-left → answer_number stepped.answer ≡ 0
-    → (i : ℕ) × Next seat shelf i × HandOverDone seat (packet_at shelf i) stepped.seat × (out-left ≡ at_start (body_of (packet_at shelf i)) out)
-    × (shelf-left ≡ laid shelf i free_slot)
-release_rule seat shelf out stepped shelf-left out-left held r zero =
+release_rule : (seat : Seat) (shelf out : List ℕ) (stepped : Stepped) (shelf_left out_left : List ℕ) → Held seat
+    → Released seat shelf out stepped shelf_left out_left → answer_number stepped.answer ≡ 0
+    → (i : ℕ) × Next seat shelf i × HandOverDone seat (packet_at shelf i) stepped.seat × (out_left ≡ at_start (body_of (packet_at shelf i)) out)
+    × (shelf_left ≡ laid shelf i free_slot)
+release_rule seat shelf out stepped shelf_left out_left held r zero =
     let facts = (release_occasions seat shelf out).is_0.0 (sym (ap answer_number r.answered) ∙ zero) in
     let i = facts.1.0 in
     let first = facts.1.1 in
@@ -76,8 +76,8 @@ release_rule seat shelf out stepped shelf-left out-left held r zero =
     let passing = facts.0.1.passing i first.ready.0 first.ready.1 in
     let well = (formed_agrees packet).1 passing.is_well_formed in
     let next : stepped.seat ≡ hand_over seat (heading_of packet) (past_of packet) (barrier_of packet) = rw (is, ← here) at r.next in
-    let cleared : shelf-left ≡ laid shelf i free_slot = rw (is, ← here) at r.shelf_after_is in
-    let output : out-left ≡ at_start (body_of packet) out = rw (is, ← here) at r.output in (
+    let cleared : shelf_left ≡ laid shelf i free_slot = rw (is, ← here) at r.shelf_after_is in
+    let output : out_left ≡ at_start (body_of packet) out = rw (is, ← here) at r.output in (
       i,
       first,
       rw next
@@ -87,9 +87,9 @@ release_rule seat shelf out stepped shelf-left out-left held r zero =
       cleared,
     )
 
-idle : (seat : Seat) (shelf out : List ℕ) (stepped : Stepped) (shelf-left out-left : List ℕ) → Released seat shelf out stepped shelf-left out-left
-    → answer_number stepped.answer ≡ 2 → (stepped.seat ≡ seat) × (shelf-left ≡ shelf) × (out-left ≡ out)
-idle seat shelf out stepped shelf-left out-left r two =
+idle : (seat : Seat) (shelf out : List ℕ) (stepped : Stepped) (shelf_left out_left : List ℕ) → Released seat shelf out stepped shelf_left out_left
+    → answer_number stepped.answer ≡ 2 → (stepped.seat ≡ seat) × (shelf_left ≡ shelf) × (out_left ≡ out)
+idle seat shelf out stepped shelf_left out_left r two =
     let facts = (release_occasions seat shelf out).is_2.0 (sym (ap answer_number r.answered) ∙ two) in
     let is = none_ready_is_idle seat shelf out facts.0 facts.1 in
     (rw is at r.next, rw is at r.shelf_after_is, rw is at r.output)

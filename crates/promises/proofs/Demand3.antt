@@ -18,7 +18,7 @@ module _ {n : ℕ} {places : ℕ → Place} {letters : List Letter} where
   demand_3 session = (run_invariant model (session_goes session).run).kept
 
   every_event_is_new : {trace : Trace} → Session n places letters trace → Throughout New trace
-  every_event_is_new session = (run_invariant model (session_goes session).run).new
+  every_event_is_new session = (run_invariant model (session_goes session).run).all_new
 
   -- A seat hands over each edit at most once.
   pub handed_over_at_most_once : {trace : Trace} → Session n places letters trace

@@ -42,10 +42,10 @@ pub record Goes (n : ℕ) (places : ℕ → Place) (letters : List Letter) (trac
   pub posted : (letter : Letter) → letter ∈ letters → WellSent letter
 
 -- one letter more
-pub posted_after : (new : Letter) (letters : List Letter) → WellSent new → ((letter : Letter) → letter ∈ letters → WellSent letter)
-    → (letter : Letter) → letter ∈ (new ∷ letters) → WellSent letter
-posted_after new letters well rest letter (Memᴰ.head same) = subst WellSent (sym same) well
-posted_after new letters well rest letter (Memᴰ.tail old) = rest letter old
+pub posted_after : (latest : Letter) (letters : List Letter) → WellSent latest → ((letter : Letter) → letter ∈ letters → WellSent letter)
+    → (letter : Letter) → letter ∈ (latest ∷ letters) → WellSent letter
+posted_after latest letters well rest letter (Memᴰ.head same) = subst WellSent (sym same) well
+posted_after latest letters well rest letter (Memᴰ.tail was) = rest letter was
 
 module _ {n : ℕ} {places : ℕ → Place} {letters : List Letter} {trace : Trace} (so_far : Goes n places letters trace) (j : ℕ) (seated : Seated n j) where
   pub here : WellPlaced j (places j)
@@ -65,6 +65,6 @@ module _ {n : ℕ} {places : ℕ → Place} {letters : List Letter} {trace : Tra
 
   -- a step that changes nothing and tells nothing
   pub stays : (next : Seat) (left : List ℕ) → next ≡ (places j).seat → left ≡ (places j).shelf → Goes n (place_with next left) letters trace
-  stays next left same-seat same-shelf =
+  stays next left same_seat same_shelf =
       subst (λ (all : ℕ → Place). Goes n all letters trace)
-      (sym (nothing_moved j (record { seat = next; shelf = left }) places (λ i. record { seat = same-seat i; shelf = same-shelf i }))) so_far
+      (sym (nothing_moved j (record { seat = next; shelf = left }) places (λ i. record { seat = same_seat i; shelf = same_shelf i }))) so_far

@@ -39,7 +39,7 @@ not_true_is_false true never = absurd (never refl)
 not_true_is_false false never = refl
 
 module _ (seat : Seat) (packet : List ℕ) (sound : SoundState seat) (held : Held seat) (low : 1 ≤ (sender_of packet).0) (high : (sender_of packet).0 ≤ seat.n)
-    (new : is_handed seat (sender_of packet) (number_of packet) ≡ true → ⊥) (now : Ready seat packet) where
+    (is_new : is_handed seat (sender_of packet) (number_of packet) ≡ true → ⊥) (is_ready : Ready seat packet) where
   abbrev next : Seat
   next = hand_over seat (heading_of packet) (past_of packet) (barrier_of packet)
 
@@ -52,7 +52,7 @@ module _ (seat : Seat) (packet : List ℕ) (sound : SoundState seat) (held : Hel
   at_sender : (t : ℕ) → In next sender t ↔ (In seat sender t ⊎ (t ≡ number_of packet))
   at_sender t =
       let w = window_at seat (sender - 1) in
-      let above = not_handed_is_above_run w (number_of packet) (not_true_is_false _ new) in
+      let above = not_handed_is_above_run w (number_of packet) (not_true_is_false _ is_new) in
       let is = senders_window_takes_the_number seat (heading_of packet) (past_of packet) (barrier_of packet) held low (omega (arith, sound.seats_high)) in
       one_more (handed w t) (handed (window_at next (sender - 1)) t) t (number_of packet)
       (ap (λ (x : Window). handed x t) is ∙ handing_over_adds_one w (number_of packet) t above)
@@ -96,7 +96,7 @@ module _ (seat : Seat) (packet : List ℕ) (sound : SoundState seat) (held : Hel
       record {
         rule =
             record {
-              line_5 = ready_is_line_5 seat packet sound now;
+              line_5 = ready_is_line_5 seat packet sound is_ready;
               line_7 = set_grows;
               line_8 = past_raised;
               line_9 = λ is k from to. barrier_raised k from to Causal is;

@@ -61,9 +61,9 @@ pub no_count_beyond : (v : List ℕ) → length v ≡ 16 → (k : ℕ) → (k < 
 no_count_beyond v long k beyond = get_or-eq_default v 0 {n = k} (omega arith)
 
 pub count_of_maxes : (v w : List ℕ) → length v ≡ 16 → length w ≡ 16 → (i : ℕ) → count_of (maxes v w) i ≡ max (count_of v i) (count_of w i)
-count_of_maxes v w v-long w-long zero = refl
-count_of_maxes v w v-long w-long (suc k) =
+count_of_maxes v w v_long w_long zero = refl
+count_of_maxes v w v_long w_long (suc k) =
     elim (dec_lt k 16) [
       | yes inside ↦ maxes_at v w k inside
-      | no beyond ↦ rw (no_count_beyond (maxes v w) (length_maxes v w) k beyond, no_count_beyond v v-long k beyond, no_count_beyond w w-long k beyond)
+      | no beyond ↦ rw (no_count_beyond (maxes v w) (length_maxes v w) k beyond, no_count_beyond v v_long k beyond, no_count_beyond w w_long k beyond)
     ]

@@ -46,9 +46,9 @@ module _ (seat : Seat) (shelf : List ℕ) (place : SoundPlace seat shelf) where
             shelf (laid shelf slot free_slot);
         shelf_after_is = λ p. (
           λ (i, stands).
-              let old = clearing_takes_one shelf slot so.there p i stands in (
-                (i, old.1),
-                λ same. old.0 (one_slot_for_an_edit seat shelf place.shelf_sound p packet i slot old.1 at (one_edit_same_numbers p packet same)),
+              let was = clearing_takes_one shelf slot so.there p i stands in (
+                (i, was.1),
+                λ same. was.0 (one_slot_for_an_edit seat shelf place.shelf_sound p packet i slot was.1 at (one_edit_same_numbers p packet same)),
               ),
           λ ((i, stands), other).
               (i, clearing_keeps_the_others shelf slot so.there p i (λ here. other (ap (edit model) (sym stands.is ∙ ap (packet_at shelf) here))) stands),

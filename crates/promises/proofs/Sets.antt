@@ -20,9 +20,9 @@ zero_above_seats packet i above inside = vector_above (seats_of packet) _ i abov
 
 module _ (seat : Seat) (packet : List ℕ) (sound : SoundState seat) where
   pub ready_is_line_5 : Ready seat packet → Line5 seat.n (controller_of seat) (vector_of (barrier_of packet))
-  ready_is_line_5 now k low high t from to =
+  ready_is_line_5 is_ready k low high t from to =
       let inside : k - 1 < 16 = omega (arith, sound.seats_high) in
-      up_to_run_is_handed (window_at seat (k - 1)) t (omega (arith, now (k - 1) inside))
+      up_to_run_is_handed (window_at seat (k - 1)) t (omega (arith, is_ready (k - 1) inside))
 
   at_index : SameSession seat packet → Line5 seat.n (controller_of seat) (vector_of (barrier_of packet)) → (i : ℕ) → i < 16
       → (k : ℕ) → k ≡ i + 1 → i ≡ k - 1 → get_or (barrier_of packet) (k - 1) 0 ≤ get_or seat.run (k - 1) 0

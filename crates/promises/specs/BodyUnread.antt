@@ -30,28 +30,28 @@ pub record AlikeShelves (one other : List ℕ) : Type 0 where
 
 -- Two outputs are the same, or the same but for a body that stands in each at the same place.
 abbrev pub SameButFor : List ℕ → List ℕ → List ℕ → List ℕ → Type 0
-SameButFor body other-body out other-out =
-    (out ≡ other-out) ⊎ ((front : List ℕ) × (rest : List ℕ) × (out ≡ front ++ (body ++ rest)) × (other-out ≡ front ++ (other-body ++ rest)))
+SameButFor body other_body out other_out =
+    (out ≡ other_out) ⊎ ((front : List ℕ) × (rest : List ℕ) × (out ≡ front ++ (body ++ rest)) × (other_out ≡ front ++ (other_body ++ rest)))
 
 -- Two shelves stay, or both change at slot i and nowhere else: one slot's bytes are laid there, and the other's.
 abbrev pub SameSlotChanges : List ℕ → List ℕ → List ℕ → List ℕ → ℕ → List ℕ → List ℕ → Type 0
-SameSlotChanges shelf other after other_After i slot other-slot =
-    ((after ≡ shelf) × (other_After ≡ other)) ⊎ ((after ≡ laid shelf i slot) × (other_After ≡ laid other i other-slot))
+SameSlotChanges shelf other after other_after i slot other_slot =
+    ((after ≡ shelf) × (other_after ≡ other)) ⊎ ((after ≡ laid shelf i slot) × (other_after ≡ laid other i other_slot))
 
 -- The same call on both is answered the same.
 pub record BodyUnread : Type 0 where
-  pub writing : (kind : Kind) (header : Header) (past barrier body other out : List ℕ) (answer answer-other : Answer) (after after-other : List ℕ)
-      → length body ≡ length other → Written kind header past barrier body out answer after → Written kind header past barrier other out answer-other after-other
-      → (answer ≡ answer-other) × SameButFor body other after after-other
+  pub writing : (kind : Kind) (header : Header) (past barrier body other out : List ℕ) (answer answer_other : Answer) (after after_other : List ℕ)
+      → length body ≡ length other → Written kind header past barrier body out answer after → Written kind header past barrier other out answer_other after_other
+      → (answer ≡ answer_other) × SameButFor body other after after_other
   pub reading : (packet other : List ℕ) → Alike packet other → (read_of packet ≡ read_of other) × (length (body_of packet) ≡ length (body_of other))
-  pub sending : (seat : Seat) (wish : Wish) (body other out : List ℕ) (stepped stepped-other : Stepped) (after after-other : List ℕ)
-      → length body ≡ length other → Sent seat wish body out stepped after → Sent seat wish other out stepped-other after-other
-      → (stepped ≡ stepped-other) × SameButFor body other after after-other
-  pub arriving : (seat : Seat) (packet other shelf shelf-other : List ℕ) (stepped stepped-other : Stepped) (after after-other : List ℕ)
-      → Alike packet other → AlikeShelves shelf shelf-other → Arrived seat packet shelf stepped after → Arrived seat other shelf-other stepped-other after-other
-      → (stepped ≡ stepped-other) × ((i : ℕ) × SameSlotChanges shelf shelf-other after after-other i (slot_of packet) (slot_of other))
-  pub releasing : (seat : Seat) (shelf shelf-other out : List ℕ) (stepped stepped-other : Stepped) (left left_other out-left out-other : List ℕ)
-      → AlikeShelves shelf shelf-other → Released seat shelf out stepped left out-left → Released seat shelf-other out stepped-other left_other out-other
-      → (stepped ≡ stepped-other)
-      × ((i : ℕ) × SameSlotChanges shelf shelf-other left left_other i free_slot free_slot
-      × SameButFor (body_of (packet_at shelf i)) (body_of (packet_at shelf-other i)) out-left out-other)
+  pub sending : (seat : Seat) (wish : Wish) (body other out : List ℕ) (stepped stepped_other : Stepped) (after after_other : List ℕ)
+      → length body ≡ length other → Sent seat wish body out stepped after → Sent seat wish other out stepped_other after_other
+      → (stepped ≡ stepped_other) × SameButFor body other after after_other
+  pub arriving : (seat : Seat) (packet other shelf shelf_other : List ℕ) (stepped stepped_other : Stepped) (after after_other : List ℕ)
+      → Alike packet other → AlikeShelves shelf shelf_other → Arrived seat packet shelf stepped after → Arrived seat other shelf_other stepped_other after_other
+      → (stepped ≡ stepped_other) × ((i : ℕ) × SameSlotChanges shelf shelf_other after after_other i (slot_of packet) (slot_of other))
+  pub releasing : (seat : Seat) (shelf shelf_other out : List ℕ) (stepped stepped_other : Stepped) (left left_other out_left out_other : List ℕ)
+      → AlikeShelves shelf shelf_other → Released seat shelf out stepped left out_left → Released seat shelf_other out stepped_other left_other out_other
+      → (stepped ≡ stepped_other)
+      × ((i : ℕ) × SameSlotChanges shelf shelf_other left left_other i free_slot free_slot
+      × SameButFor (body_of (packet_at shelf i)) (body_of (packet_at shelf_other i)) out_left out_other)

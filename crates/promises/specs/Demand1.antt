@@ -158,7 +158,7 @@ pub record Admitted (seat : Seat) (shelf packet : List ℕ) : Type 0 where
   pub is_well_formed : WellFormed packet
   pub same_session : SameSession seat packet
   pub within_own_count : WithinOwnCount seat packet
-  pub new : Repeats seat shelf packet → ⊥
+  pub is_new : Repeats seat shelf packet → ⊥
   pub near : Near seat packet
 
 -- Arrival: 10, 14, 15, 16, 17, 18; then if ready 23, else 19.
@@ -245,8 +245,8 @@ pub record RefusalsChangeNothing : Type 0 where
       → 10 ≤ answer_number stepped.answer → (stepped.seat ≡ seat) × (after ≡ out)
   pub arriving : (seat : Seat) (packet shelf : List ℕ) (stepped : Stepped) (after : List ℕ) → Arrived seat packet shelf stepped after
       → 10 ≤ answer_number stepped.answer → (stepped.seat ≡ seat) × (after ≡ shelf)
-  pub releasing : (seat : Seat) (shelf out : List ℕ) (stepped : Stepped) (shelf-left out-left : List ℕ) → Released seat shelf out stepped shelf-left out-left
-      → 10 ≤ answer_number stepped.answer → (stepped.seat ≡ seat) × (shelf-left ≡ shelf) × (out-left ≡ out)
+  pub releasing : (seat : Seat) (shelf out : List ℕ) (stepped : Stepped) (shelf_left out_left : List ℕ) → Released seat shelf out stepped shelf_left out_left
+      → 10 ≤ answer_number stepped.answer → (stepped.seat ≡ seat) × (shelf_left ≡ shelf) × (out_left ≡ out)
 
 -- Demand 1, call by call.
 pub record Demand1 : Type 0 where

@@ -19,7 +19,7 @@ use Rattle.packet.specs.declared.ReadAnswer.TheVariants.{Packet}
 use Rattle.shelf.specs.Shelf.{slot_of, laid, free_slot, lowest_free}
 use Rattle.seat.specs.State.{header_of, window_of, SoundState, Held}
 use Rattle.seat.specs.Stock.{packet_at}
-use Rattle.seat.specs.Sending.{kind_of as kindWished, Sent}
+use Rattle.seat.specs.Sending.{kind_of as kind_wished, Sent}
 use Rattle.seat.specs.Arriving.{Arrived}
 use Rattle.seat.specs.Releasing.{Released}
 use Rattle.seat.specs.declared.Seat.{Seat}
@@ -39,38 +39,38 @@ pub record Controller : Type 1 where
 abbrev pub Each : ℕ → (ℕ → Type 0) → Type 0
 Each n fact = (k : ℕ) → 1 ≤ k → k ≤ n → fact k
 
--- Seat i of n sends a message of kind x, which carries past-m and barrier-m.
-pub record SendingRule (n i : ℕ) (x : Kind) (before : Controller) (past-m barrier-m : ℕ → ℕ) (after : Controller) : Type 0 where
+-- Seat i of n sends a message of kind x, which carries past_m and barrier_m.
+pub record SendingRule (n i : ℕ) (x : Kind) (before : Controller) (past_m barrier_m : ℕ → ℕ) (after : Controller) : Type 0 where
   -- 1: if the kind is causal, barrier becomes past
-  pub line_1_causal : x ≡ Causal → Each n (λ k. barrier-m k ≡ before.past k)
-  pub line_1_ordinary : x ≡ Ordinary → Each n (λ k. barrier-m k ≡ before.barrier k)
+  pub line_1_causal : x ≡ Causal → Each n (λ k. barrier_m k ≡ before.past k)
+  pub line_1_ordinary : x ≡ Ordinary → Each n (λ k. barrier_m k ≡ before.barrier k)
   -- 2: past rises by one at i
   pub line_2_own : after.past i ≡ before.past i + 1
   pub line_2_others : Each n (λ k. (k ≡ i → ⊥) → after.past k ≡ before.past k)
   -- 3: the message goes out with past and barrier as they stand now
-  pub line_3 : Each n (λ k. past-m k ≡ after.past k)
+  pub line_3 : Each n (λ k. past_m k ≡ after.past k)
   -- 4: if the kind is causal, barrier becomes past again
   pub line_4_causal : x ≡ Causal → Each n (λ k. after.barrier k ≡ after.past k)
-  pub line_4_ordinary : x ≡ Ordinary → Each n (λ k. after.barrier k ≡ barrier-m k)
+  pub line_4_ordinary : x ≡ Ordinary → Each n (λ k. after.barrier k ≡ barrier_m k)
   -- the sets are left
   pub sets_stay : Each n (λ k. (t : ℕ) → after.del k t ↔ before.del k t)
 
--- 5: of every seat, all edits 1 up to barrier-m are in the set.
+-- 5: of every seat, all edits 1 up to barrier_m are in the set.
 abbrev pub Line5 : ℕ → Controller → (ℕ → ℕ) → Type 0
-Line5 n before barrier-m = Each n (λ k. (t : ℕ) → 1 ≤ t → t ≤ barrier-m k → before.del k t)
+Line5 n before barrier_m = Each n (λ k. (t : ℕ) → 1 ≤ t → t ≤ barrier_m k → before.del k t)
 
 -- A message of kind x from seat j is handed over at a seat of n; line 6 is the hand-over itself.
-pub record DeliveryRule (n j : ℕ) (x : Kind) (past-m barrier-m : ℕ → ℕ) (before after : Controller) : Type 0 where
+pub record DeliveryRule (n j : ℕ) (x : Kind) (past_m barrier_m : ℕ → ℕ) (before after : Controller) : Type 0 where
   -- 5: the message waited for this
-  pub line_5 : Line5 n before barrier-m
+  pub line_5 : Line5 n before barrier_m
   -- 7: its number joins the set of its sender
-  pub line_7 : Each n (λ k. (t : ℕ) → after.del k t ↔ (before.del k t ⊎ ((k ≡ j) × (t ≡ past-m j))))
+  pub line_7 : Each n (λ k. (t : ℕ) → after.del k t ↔ (before.del k t ⊎ ((k ≡ j) × (t ≡ past_m j))))
   -- 8: past is raised by the message's past
-  pub line_8 : Each n (λ k. after.past k ≡ max (before.past k) (past-m k))
+  pub line_8 : Each n (λ k. after.past k ≡ max (before.past k) (past_m k))
   -- 9: if causal, barrier is raised by the message's past
-  pub line_9 : x ≡ Causal → Each n (λ k. after.barrier k ≡ max (before.barrier k) (past-m k))
+  pub line_9 : x ≡ Causal → Each n (λ k. after.barrier k ≡ max (before.barrier k) (past_m k))
   -- 10: if ordinary, barrier is raised by the message's barrier
-  pub line_10 : x ≡ Ordinary → Each n (λ k. after.barrier k ≡ max (before.barrier k) (barrier-m k))
+  pub line_10 : x ≡ Ordinary → Each n (λ k. after.barrier k ≡ max (before.barrier k) (barrier_m k))
 
 -- ---- a seat as the paper's controller
 
@@ -105,7 +105,7 @@ pub record Demand2 : Type 0 where
       → Ready seat packet ↔ Line5 seat.n (controller_of seat) (vector_of (barrier_of packet))
   -- a send answered 0 is lines 1 to 4
   pub send_is_the_rule : (seat : Seat) (wish : Wish) (body out : List ℕ) (stepped : Stepped) (after : List ℕ) → Held seat
-      → Sent seat wish body out stepped after → answer_number stepped.answer ≡ 0 → SendDone seat (kindWished wish) body out stepped.seat after
+      → Sent seat wish body out stepped after → answer_number stepped.answer ≡ 0 → SendDone seat (kind_wished wish) body out stepped.seat after
   -- an arrival answered 0 is lines 5 to 10, and leaves the shelf
   pub arrival_is_the_rule : (seat : Seat) (packet shelf : List ℕ) (stepped : Stepped) (after : List ℕ) → Held seat
       → Arrived seat packet shelf stepped after → answer_number stepped.answer ≡ 0 → HandOverDone seat packet stepped.seat × (after ≡ shelf)
@@ -118,14 +118,14 @@ pub record Demand2 : Type 0 where
       × (after ≡ laid shelf (lowest_free shelf) (slot_of packet))
   -- a release answered 0 is lines 5 to 10 for the next packet on the shelf: its body goes to the start of the output, and
   -- its slot is zeroed
-  pub release_is_the_rule : (seat : Seat) (shelf out : List ℕ) (stepped : Stepped) (shelf-left out-left : List ℕ) → Held seat
-      → Released seat shelf out stepped shelf-left out-left → answer_number stepped.answer ≡ 0
-      → (i : ℕ) × Next seat shelf i × HandOverDone seat (packet_at shelf i) stepped.seat × (out-left ≡ at_start (body_of (packet_at shelf i)) out)
-      × (shelf-left ≡ laid shelf i free_slot)
+  pub release_is_the_rule : (seat : Seat) (shelf out : List ℕ) (stepped : Stepped) (shelf_left out_left : List ℕ) → Held seat
+      → Released seat shelf out stepped shelf_left out_left → answer_number stepped.answer ≡ 0
+      → (i : ℕ) × Next seat shelf i × HandOverDone seat (packet_at shelf i) stepped.seat × (out_left ≡ at_start (body_of (packet_at shelf i)) out)
+      × (shelf_left ≡ laid shelf i free_slot)
   -- a release answered 2 changes nothing
-  pub idle_release_does_nothing : (seat : Seat) (shelf out : List ℕ) (stepped : Stepped) (shelf-left out-left : List ℕ)
-      → Released seat shelf out stepped shelf-left out-left → answer_number stepped.answer ≡ 2
-      → (stepped.seat ≡ seat) × (shelf-left ≡ shelf) × (out-left ≡ out)
+  pub idle_release_does_nothing : (seat : Seat) (shelf out : List ℕ) (stepped : Stepped) (shelf_left out_left : List ℕ)
+      → Released seat shelf out stepped shelf_left out_left → answer_number stepped.answer ≡ 2
+      → (stepped.seat ≡ seat) × (shelf_left ≡ shelf) × (out_left ≡ out)
   -- and neither does a refusal
   pub refusals_do_nothing : RefusalsChangeNothing
   -- what is written reads back as the same message

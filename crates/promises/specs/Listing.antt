@@ -34,11 +34,11 @@ answers_of (arriving j letter shelf stepped session seated mail meets) = answers
 answers_of (releasing j out shelf output stepped session seated meets) = answers_of session ++ (printed stepped.answer ∷ [])
 
 -- A session of n seats, with so many slots each, walks these steps, prints these answers and leaves these events.
-pub record Walks (n slotsEach : ℕ) (steps : List Step) (lines : List (ℕ × ℕ × ℕ)) (trace : Trace) : Type 0 where
+pub record Walks (n slots_each : ℕ) (steps : List Step) (lines : List (ℕ × ℕ × ℕ)) (trace : Trace) : Type 0 where
   pub places : ℕ → Place
   pub letters : List Letter
   pub session : Session n places letters trace
-  pub slots_are : (j : ℕ) → Seated n j → slots (places j).shelf ≡ slotsEach
+  pub slots_are : (j : ℕ) → Seated n j → slots (places j).shelf ≡ slots_each
   pub steps_are : steps_of session ≡ steps
   pub answers_are : answers_of session ≡ lines
 

@@ -20,14 +20,14 @@ use Rattle.seat.specs.declared.Stepped.{Stepped}
 pub record Settled : Type 0 where
   pub reading : (packet : List ℕ) (one other : Reading) → one ≡ read_of packet → other ≡ read_of packet → one ≡ other
   pub lending_body : (packet one other : List ℕ) → one ≡ body_of packet → other ≡ body_of packet → one ≡ other
-  pub writing : (kind : Kind) (header : Header) (past barrier body out : List ℕ) (one other : Answer) (after after-other : List ℕ)
-      → Written kind header past barrier body out one after → Written kind header past barrier body out other after-other → (one ≡ other) × (after ≡ after-other)
-  pub opening : (n : ℕ) (own : SeatNo) (shelf : List ℕ) (one other : Stepped) (after after-other : List ℕ)
-      → OpenedAs n own shelf one after → OpenedAs n own shelf other after-other → (one ≡ other) × (after ≡ after-other)
-  pub sending : (seat : Seat) (wish : Wish) (body out : List ℕ) (one other : Stepped) (after after-other : List ℕ)
-      → Sent seat wish body out one after → Sent seat wish body out other after-other → (one ≡ other) × (after ≡ after-other)
-  pub arriving : (seat : Seat) (packet shelf : List ℕ) (one other : Stepped) (after after-other : List ℕ)
-      → Arrived seat packet shelf one after → Arrived seat packet shelf other after-other → (one ≡ other) × (after ≡ after-other)
-  pub releasing : (seat : Seat) (shelf out : List ℕ) (one other : Stepped) (shelf-one out_one shelf-other out-other : List ℕ)
-      → Released seat shelf out one shelf-one out_one → Released seat shelf out other shelf-other out-other
-      → (one ≡ other) × (shelf-one ≡ shelf-other) × (out_one ≡ out-other)
+  pub writing : (kind : Kind) (header : Header) (past barrier body out : List ℕ) (one other : Answer) (after after_other : List ℕ)
+      → Written kind header past barrier body out one after → Written kind header past barrier body out other after_other → (one ≡ other) × (after ≡ after_other)
+  pub opening : (n : ℕ) (own : SeatNo) (shelf : List ℕ) (one other : Stepped) (after after_other : List ℕ)
+      → OpenedAs n own shelf one after → OpenedAs n own shelf other after_other → (one ≡ other) × (after ≡ after_other)
+  pub sending : (seat : Seat) (wish : Wish) (body out : List ℕ) (one other : Stepped) (after after_other : List ℕ)
+      → Sent seat wish body out one after → Sent seat wish body out other after_other → (one ≡ other) × (after ≡ after_other)
+  pub arriving : (seat : Seat) (packet shelf : List ℕ) (one other : Stepped) (after after_other : List ℕ)
+      → Arrived seat packet shelf one after → Arrived seat packet shelf other after_other → (one ≡ other) × (after ≡ after_other)
+  pub releasing : (seat : Seat) (shelf out : List ℕ) (one other : Stepped) (shelf_one out_one shelf_other out_other : List ℕ)
+      → Released seat shelf out one shelf_one out_one → Released seat shelf out other shelf_other out_other
+      → (one ≡ other) × (shelf_one ≡ shelf_other) × (out_one ≡ out_other)

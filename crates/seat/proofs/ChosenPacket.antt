@@ -1,5 +1,5 @@
 -- The packet that a release takes: what is known of it, and each answer with what it leaves.
-use Prim.Native.Nat.{ℕ, ◌-◌, ◌≤◌, ◌<◌}
+use Prim.Native.Nat.{ℕ, ◌≤◌, ◌<◌}
 use mathlib.Core.Path.{◌≡◌, ◌∙◌}
 use mathlib.Core.Bool.{false}
 use mathlib.Core.List.{List}

@@ -24,7 +24,7 @@ module _ {t : Trace} (w : Way) (j : ℕ) (f : Edit) (n : New (handed w j f) t) w
   pub knows_after_handing : {e : Edit} → (Knows t j e ⊎ PriorOrSame t e f) ↔ Knows (handed w j f ∷ t) j e
   knows_after_handing {e} = (
     ⊎_elim (λ (i, s). (i, seen_after_handing.0 (inl s))) brought,
-    λ (i, s). ⊎_elim (λ old. inl (i, old)) (λ (k, p, r). inr (⊎_map (λ q. cc) (λ b. (i, k, b)) r)) (seen_after_handing.1 s),
+    λ (i, s). ⊎_elim (λ was. inl (i, was)) (λ (k, p, r). inr (⊎_map (λ q. cc) (λ b. (i, k, b)) r)) (seen_after_handing.1 s),
   )
     where
       brought : PriorOrSame t e f → Knows (handed w j f ∷ t) j e
@@ -41,7 +41,7 @@ module _ {t : Trace} (w : Way) (j : ℕ) (f : Edit) (n : New (handed w j f) t) w
   owes_through {e} = (
     ⊎_elim (owes_grows j n) (λ (g, s, r). (g, seen_after_handing.0 (inr s), rest_grows j n r)),
     λ (g, s, r). ⊎_elim
-        (λ old. inl (g, old, rest_shrinks j n (seen_in j old) r))
+        (λ was. inl (g, was, rest_shrinks j n (seen_in j was) r))
         (λ (k, p, c). inr (g, (k, p, c), rest_shrinks j n (⊎_elim (λ q. Memᴰ.cast q p) (λ b. (before_in b).0) c) r))
         (seen_after_handing.1 s),
   )

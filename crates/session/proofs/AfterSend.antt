@@ -13,12 +13,12 @@ use Rattle.session.proofs.Knowledge.{Knows, NeedsOrSame, Owes, owed_is_known, re
 module _ {t : Trace} (f : Edit) (k : Kind) (n : New (sent f k) t) where
   pub knows_after_sending : {e : Edit} → ((e ≡ f) ⊎ Knows t f.by e) ↔ Knows (sent f k ∷ t) f.by e
   knows_after_sending {e} = (
-    ⊎_elim (λ q. (k, new.1 (inl (ap (λ (d : Edit). sent d k) q)))) (λ (l, s). (l, new.1 (inr (inl s)))),
-    λ (l, s). ⊎_elim (λ q. inl (cc)) (⊎_elim (λ old. inr (l, old)) absurd) (new.0 s),
+    ⊎_elim (λ q. (k, seen_more.1 (inl (ap (λ (d : Edit). sent d k) q)))) (λ (l, s). (l, seen_more.1 (inr (inl s)))),
+    λ (l, s). ⊎_elim (λ q. inl (cc)) (⊎_elim (λ was. inr (l, was)) absurd) (seen_more.0 s),
   )
     where
-      new : {a : Event} → Seen (sent f k ∷ t) f.by a ↔ ((a ≡ sent f k) ⊎ (Seen t f.by a ⊎ ⊥))
-      new = seen_here f.by n refl
+      seen_more : {a : Event} → Seen (sent f k ∷ t) f.by a ↔ ((a ≡ sent f k) ⊎ (Seen t f.by a ⊎ ⊥))
+      seen_more = seen_here f.by n refl
 
   -- what is causally before the new send is what the seat has seen
   before_sending : {a : Event} (l : Kind) → Before (sent f k ∷ t) a (sent f l) → Seen t f.by a
@@ -78,10 +78,10 @@ module _ {t : Trace} (f : Edit) (n : New (sent f ordinary) t) where
           (g, s, inr ((needs_settled_by_one n (causal, seen_in f.by s)).0 r))
 
   pub owes_after_ordinary : {e : Edit} → Owes t f.by e ↔ Owes (sent f ordinary ∷ t) f.by e
-  owes_after_ordinary {e} = (owes_grows f.by n, λ (g, s, r). ⊎_elim clash (⊎_elim (old g r) absurd) ((seen_here f.by n refl).0 s))
+  owes_after_ordinary {e} = (owes_grows f.by n, λ (g, s, r). ⊎_elim clash (⊎_elim (was g r) absurd) ((seen_here f.by n refl).0 s))
     where
       clash : {g : Edit} → sent g causal ≡ sent f ordinary → Owes t f.by e
       clash q = let z : ordinary ≡ causal = cc in absurd (not_causal z)
 
-      old : (g : Edit) → NeedsOrSame (sent f ordinary ∷ t) g e → Seen t f.by (sent g causal) → Owes t f.by e
-      old g r s = (g, s, rest_shrinks f.by n (seen_in f.by s) r)
+      was : (g : Edit) → NeedsOrSame (sent f ordinary ∷ t) g e → Seen t f.by (sent g causal) → Owes t f.by e
+      was g r s = (g, s, rest_shrinks f.by n (seen_in f.by s) r)

@@ -61,11 +61,11 @@ module _ {t : Trace} {e : Edit} where
   sent_is_in (idle i) h = absurd h
 
   pub sent_with : (x : Event) → Sent (x ∷ t) e ↔ (Sent t e ⊎ SentBy x e)
-  sent_with x = (λ (k, p). old k p, ⊎_elim (λ (k, p). (k, Memᴰ.tail p)) (sent_is_in x))
+  sent_with x = (λ (k, p). was k p, ⊎_elim (λ (k, p). (k, Memᴰ.tail p)) (sent_is_in x))
     where
-      old : (k : Kind) → sent e k ∈ (x ∷ t) → Sent t e ⊎ SentBy x e
-      old k (Memᴰ.head q) = inr (subst (λ (y : Event). SentBy y e) q refl)
-      old k (Memᴰ.tail p) = inl (k, p)
+      was : (k : Kind) → sent e k ∈ (x ∷ t) → Sent t e ⊎ SentBy x e
+      was k (Memᴰ.head q) = inr (subst (λ (y : Event). SentBy y e) q refl)
+      was k (Memᴰ.tail p) = inl (k, p)
 
 module _ {t : Trace} {j : ℕ} {e : Edit} where
   hands_is_in : (x : Event) → Hands x j e → Handed (x ∷ t) j e
@@ -81,11 +81,11 @@ module _ {t : Trace} {j : ℕ} {e : Edit} where
   accepts_is_in (idle i) h = absurd h
 
   pub handed_with : (x : Event) → Handed (x ∷ t) j e ↔ (Handed t j e ⊎ Hands x j e)
-  handed_with x = (λ (w, p). old w p, ⊎_elim (λ (w, p). (w, Memᴰ.tail p)) (hands_is_in x))
+  handed_with x = (λ (w, p). was w p, ⊎_elim (λ (w, p). (w, Memᴰ.tail p)) (hands_is_in x))
     where
-      old : (w : Way) → handed w j e ∈ (x ∷ t) → Handed t j e ⊎ Hands x j e
-      old w (Memᴰ.head q) = inr (subst (λ (y : Event). Hands y j e) q (refl, refl))
-      old w (Memᴰ.tail p) = inl (w, p)
+      was : (w : Way) → handed w j e ∈ (x ∷ t) → Handed t j e ⊎ Hands x j e
+      was w (Memᴰ.head q) = inr (subst (λ (y : Event). Hands y j e) q (refl, refl))
+      was w (Memᴰ.tail p) = inl (w, p)
 
   pub accepted_with : (x : Event) → Accepted (x ∷ t) j e ↔ (Accepted t j e ⊎ Accepts x j e)
   accepted_with x = (⊎_elim taken put, ⊎_elim (⊎_map Memᴰ.tail Memᴰ.tail) (accepts_is_in x))
@@ -110,5 +110,5 @@ pub handed_or_not : (t : Trace) (j : ℕ) (e : Edit) → Handed t j e ⊎ (¬ Ha
 handed_or_not [] j e = inr (λ h. Memᴰ.not-nil h.1)
 handed_or_not (x ∷ t) j e =
     ⊎_elim (λ h. inl ((handed_with x).1 (inl h)))
-    (λ not_yet. ⊎_map (λ h. (handed_with x).1 (inr h)) (λ not-now h. ⊎_elim not_yet not-now ((handed_with x).0 h)) (hands_or_not x j e))
+    (λ not_yet. ⊎_map (λ h. (handed_with x).1 (inr h)) (λ not_now h. ⊎_elim not_yet not_now ((handed_with x).0 h)) (hands_or_not x j e))
     (handed_or_not t j e)

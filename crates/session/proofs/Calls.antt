@@ -41,14 +41,14 @@ module _ (D : Model) (library : Library D) where
   module _ {n : ℕ} {seats seats' : ℕ → Seat} {packets : List Packet} {t : Trace} (run : Run D n seats packets t) (j : ℕ) (seated : Seated n j) where
     run_send : (q : Request) → own (seats j) ≡ j → Turn D j (λ a b. b ≡ (send q a).next) seats seats' → (r : ℕ) → (send q (seats j)).answer ≡ r
         → Run D n seats' (packets_after_send D library q (seats j) r packets) (trace_after_send D library q (seats j) r t)
-    run_send q is-own turn zero a =
+    run_send q is_own turn zero a =
         let (step, from, reported) = send_0 q (seats j) a in
         let m = written q (seats j) in
-        let mine = sym (from ∙ is-own) in
-        let seated-sender = subst (λ (i : ℕ). Seated n i) mine seated in
-        let turn-of-sender = subst (λ (i : ℕ). Turn D i (Sends D m) seats seats') mine (steps turn (Sends D m) step) in
-        subst (λ (d : Edit). Run D n seats' (m ∷ packets) (sent d (kind m) ∷ t)) (sym reported) (sends m run seated-sender turn-of-sender)
-    run_send q is-own turn (suc r) a = stays turn run (send_other q (seats j) (λ z. omega arith))
+        let mine = sym (from ∙ is_own) in
+        let seated_sender = subst (λ (i : ℕ). Seated n i) mine seated in
+        let turn_of_sender = subst (λ (i : ℕ). Turn D i (Sends D m) seats seats') mine (steps turn (Sends D m) step) in
+        subst (λ (d : Edit). Run D n seats' (m ∷ packets) (sent d (kind m) ∷ t)) (sym reported) (sends m run seated_sender turn_of_sender)
+    run_send q is_own turn (suc r) a = stays turn run (send_other q (seats j) (λ z. omega arith))
 
     run_arrival : (m : Packet) → m ∈ packets → Turn D j (λ a b. b ≡ (arrive m a).next) seats seats' → (r : ℕ) → (arrive m (seats j)).answer ≡ r
         → Run D n seats' packets (trace_after_arrival D library j m (seats j) r t)

@@ -12,7 +12,7 @@ use Rattle.session.proofs.Calls.{session_is_a_run}
 
 module _ (D : Model) (library : Library D) {n : ℕ} {seats : ℕ → D.Seat} {packets : List D.Packet} where
   every_event_is_new : {t : Trace} → Session D library n seats packets t → Throughout New t
-  every_event_is_new session = (run_invariant D (session_is_a_run D library session)).new
+  every_event_is_new session = (run_invariant D (session_is_a_run D library session)).all_new
 
   -- Demand 3.
   pub session_keeps_demand_3 : {t : Trace} → Session D library n seats packets t → Kept t

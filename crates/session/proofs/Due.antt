@@ -22,7 +22,7 @@ module _ (D : Model) {n : ℕ} {seats : ℕ → D.Seat} {packets : List D.Packet
 
   accepted_was_sent : {e : Edit} → Accepted t j e → Sent t e
   accepted_was_sent {e} a =
-      ⊎_elim (λ (w, p). handed_was_sent I.new p)
+      ⊎_elim (λ (w, p). handed_was_sent I.all_new p)
       (λ (m, y, q). (D.kind m, Memᴰ.cast (ap (λ (d : Edit). sent d (D.kind m)) (sym q)) (holds.shelf m y).0.out))
       ((holds.accepts e).0 a)
 
@@ -37,15 +37,15 @@ module _ (D : Model) {n : ℕ} {seats : ℕ → D.Seat} {packets : List D.Packet
       ((holds.accepts e).0 a)
     where
       all : (f : Edit) → Needs t e f → Handed t j f
-      all f r = before f (needs_are_prior (one_kind t I.new) r) (needs f r) (λ g further. needs g (needs_chain r further))
+      all f r = before f (needs_are_prior (one_kind t I.all_new) r) (needs f r) (λ g further. needs g (needs_chain r further))
 
   handed_with_needs : (e f : Edit) → Handed t j e → Needs t e f → Handed t j f
-  handed_with_needs e f (w, p) r = let (v, h) = after_all_it_needs I.new I.kept p r in (v, (earlier_in h).0)
+  handed_with_needs e f (w, p) r = let (v, h) = after_all_it_needs I.all_new I.kept p r in (v, (earlier_in h).0)
 
   resting_seat_is_exact : Rests D (seats j) → Exact t j
   resting_seat_is_exact rests e = (
     λ y. ((holds.accepts e).1 (inl y), λ f r. (holds.accepts f).1 (inl (handed_with_needs e f y r))),
-    λ (a, needs). along_the_order Due t I.new (λ g s before. due_if_all_before rests g before) e (accepted_was_sent a) a needs,
+    λ (a, needs). along_the_order Due t I.all_new (λ g s before. due_if_all_before rests g before) e (accepted_was_sent a) a needs,
   )
 
   -- The invariant holds after a seat was told that nothing is ready.

@@ -40,11 +40,11 @@ module _ (D : Model) {n : ℕ} {seats : ℕ → D.Seat} {packets : List D.Packet
       receiver_owes ordinary is e =
           covered_max (barrier (seats j)) (barrierₘ m) e (λ i. rw is at (learns.barrier_after_is i))
           ⨾ either ((I.counts j seated).owes e) (posted.waits e)
-          ⨾ owes_after_handing_ordinary w j (edit D m) handing_is_new (one_kind t I.new) (rw is at posted.out)
+          ⨾ owes_after_handing_ordinary w j (edit D m) handing_is_new (one_kind t I.all_new) (rw is at posted.out)
       receiver_owes causal is e =
           covered_max (barrier (seats j)) (pastₘ m) e (λ i. rw is at (learns.barrier_after_is i))
           ⨾ either ((I.counts j seated).owes e) (posted.covers e)
-          ⨾ owes_after_handing_causal w j (edit D m) handing_is_new (one_kind t I.new) (rw is at posted.out)
+          ⨾ owes_after_handing_causal w j (edit D m) handing_is_new (one_kind t I.all_new) (rw is at posted.out)
 
       -- line 7
       receiver_marks : (e : Edit) → Marked (seats' j) e ↔ (Marked (seats j) e ⊎ Hands (handed w j (edit D m)) j e)

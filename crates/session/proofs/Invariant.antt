@@ -48,26 +48,26 @@ module _ (D : Model) where
 
   -- Throughout a run of n seats: every event came new and kept demand 3, and so of each packet sent and each seat.
   pub record Invariant (n : ℕ) (seats : ℕ → Seat) (packets : List Packet) (t : Trace) : Type 0 where
-    pub new : Throughout New t
+    pub all_new : Throughout New t
     pub kept : Kept t
     pub posted : (m : Packet) → m ∈ packets → Posted t m
     pub counts : (j : ℕ) → Seated n j → Counts t j (seats j)
     pub holds : (j : ℕ) → Seated n j → Holds t j (seats j)
 
   -- One event more, at a seat that goes from `a` to `b`.
-  module _ (x : Event) {t : Trace} (new : New x t) where
+  module _ (x : Event) {t : Trace} (is_new : New x t) where
     pub posted_later : {m : Packet} → Posted t m → Posted (x ∷ t) m
     posted_later {m} p = record {
       out = Memᴰ.tail p.out;
-      covers = λ e. p.covers e ⨾ either same (back (prior_is_settled new (kind m, p.out)));
-      waits = λ e. p.waits e ⨾ back (needs_settled_by_one new (kind m, p.out));
+      covers = λ e. p.covers e ⨾ either same (back (prior_is_settled is_new (kind m, p.out)));
+      waits = λ e. p.waits e ⨾ back (needs_settled_by_one is_new (kind m, p.out));
     }
 
     pub counts_still : {j : ℕ} (a b : Seat) → ¬ At j x → ((i : ℕ) → past b i ≡ past a i) → ((i : ℕ) → barrier b i ≡ barrier a i)
         → Counts t j a → Counts (x ∷ t) j b
     counts_still {j} a b away p q c = record {
-      knows = λ e. covered_same e p ⨾ c.knows e ⨾ knows_elsewhere j new away;
-      owes = λ e. covered_same e q ⨾ c.owes e ⨾ owes_elsewhere j new away;
+      knows = λ e. covered_same e p ⨾ c.knows e ⨾ knows_elsewhere j is_new away;
+      owes = λ e. covered_same e q ⨾ c.owes e ⨾ owes_elsewhere j is_new away;
     }
 
     pub holds_after : {j : ℕ} (a b : Seat) → ((e : Edit) → Marked b e ↔ (Marked a e ⊎ Hands x j e)) → ShelfFits t b → Moves x j a b
@@ -105,12 +105,12 @@ module _ (D : Model) where
       → ((m : Packet) → m ∈ packets' → Posted (x ∷ t) m)
       → Counts (x ∷ t) (seat_of x) (seats' (seat_of x)) → Holds (x ∷ t) (seat_of x) (seats' (seat_of x))
       → Invariant n seats' packets' (x ∷ t)
-  invariant_after {n} {seats = seats} {t = t} x I turn new promised posted counts holds = record {
-    new = (new, I.new);
+  invariant_after {n} {seats = seats} {t = t} x I turn is_new promised posted counts holds = record {
+    all_new = (is_new, I.all_new);
     kept = (promised, I.kept);
     posted = posted;
     counts = each_seat (λ i a. Seated n i → Counts (x ∷ t) i a) turn (λ _. counts)
-        (λ i d s. counts_still x new (seats i) (seats i) (quiet_elsewhere i x d).1 (λ _. refl) (λ _. refl) (I.counts i s));
+        (λ i d s. counts_still x is_new (seats i) (seats i) (quiet_elsewhere i x d).1 (λ _. refl) (λ _. refl) (I.counts i s));
     holds = each_seat (λ i a. Seated n i → Holds (x ∷ t) i a) turn (λ _. holds)
-        (λ i d s. holds_still x new (seats i) (seats i) (quiet_elsewhere i x d).0 (λ _. same) (λ _. same) (I.holds i s));
+        (λ i d s. holds_still x is_new (seats i) (seats i) (quiet_elsewhere i x d).0 (λ _. same) (λ _. same) (I.holds i s));
   }

@@ -8,27 +8,30 @@ use Rattle.session.specs.Events.{Throughout, Kept, Sent}
 use Rattle.session.proofs.Order.{New, needs_settled_by_one}
 
 -- an edit handed over was sent
-pub handed_was_sent : {t : Trace} {w : Way} {j : ℕ} {e : Edit} → Throughout New t → handed w j e ∈ t → Sent t e
-handed_was_sent {t = x ∷ t} new (Memᴰ.head q) =
-    let (k, p) = (subst (λ (y : Event). New y t) (sym q) new.0).1 in
+pub handed_was_sent : {w : Way} {j : ℕ} {e : Edit} {t : Trace} → Throughout New t → handed w j e ∈ t → Sent t e
+handed_was_sent {t = []} all_new p = elim p [ ]
+handed_was_sent {t = x ∷ t} all_new (Memᴰ.head q) =
+    let (k, p) = (subst (λ (y : Event). New y t) (sym q) all_new.0).1 in
     (k, Memᴰ.tail p)
-handed_was_sent {t = x ∷ t} new (Memᴰ.tail p) = let (k, s) = handed_was_sent new.1 p in (k, Memᴰ.tail s)
+handed_was_sent {t = x ∷ t} all_new (Memᴰ.tail p) = let (k, s) = handed_was_sent all_new.1 p in (k, Memᴰ.tail s)
 
 -- A seat hands over each edit at most once.
-pub at_most_once : {t : Trace} (w v : Way) (j : ℕ) (e : Edit) → Kept t → ¬ Earlier (handed w j e) (handed v j e) t
-at_most_once {t = x ∷ t} w v j e kept (last q p) = (subst (λ (y : Event). Promised y t) (sym q) kept.0).0 (w, p)
-at_most_once {t = x ∷ t} w v j e kept (before h) = at_most_once w v j e kept.1 h
+pub at_most_once : (w v : Way) (j : ℕ) (e : Edit) {t : Trace} → Kept t → ¬ Earlier (handed w j e) (handed v j e) t
+at_most_once w v j e {t = []} kept p = elim p [ ]
+at_most_once w v j e {t = x ∷ t} kept (last q p) = (subst (λ (y : Event). Promised y t) (sym q) kept.0).0 (w, p)
+at_most_once w v j e {t = x ∷ t} kept (before h) = at_most_once w v j e kept.1 h
 
 -- A seat hands over each edit after all it needs.
-pub after_all_it_needs : {t : Trace} {w : Way} {j : ℕ} {e f : Edit} → Throughout New t → Kept t → handed w j e ∈ t → Needs t e f
+pub after_all_it_needs : {w : Way} {j : ℕ} {e f : Edit} {t : Trace} → Throughout New t → Kept t → handed w j e ∈ t → Needs t e f
     → (v : Way) × Earlier (handed v j f) (handed w j e) t
-after_all_it_needs {t = x ∷ t} {f = f} new kept (Memᴰ.head q) needs =
-    let n = subst (λ (y : Event). New y t) (sym q) new.0 in
+after_all_it_needs {t = []} all_new kept p needs = elim p [ ]
+after_all_it_needs {f = f} {t = x ∷ t} all_new kept (Memᴰ.head q) needs =
+    let n = subst (λ (y : Event). New y t) (sym q) all_new.0 in
     let promise = subst (λ (y : Event). Promised y t) (sym q) kept.0 in
-    let (v, p) = promise.1 f ((needs_settled_by_one new.0 n.1).0 needs) in
+    let (v, p) = promise.1 f ((needs_settled_by_one all_new.0 n.1).0 needs) in
     (v, last q p)
-after_all_it_needs {t = x ∷ t} new kept (Memᴰ.tail p) needs =
-    let (v, h) = after_all_it_needs new.1 kept.1 p ((needs_settled_by_one new.0 (handed_was_sent new.1 p)).0 needs) in
+after_all_it_needs {t = x ∷ t} all_new kept (Memᴰ.tail p) needs =
+    let (v, h) = after_all_it_needs all_new.1 kept.1 p ((needs_settled_by_one all_new.0 (handed_was_sent all_new.1 p)).0 needs) in
     (v, before h)
 
 -- Told that nothing on its shelf is ready, a seat has handed over exactly the accepted edits whose every needed edit it

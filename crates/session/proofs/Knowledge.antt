@@ -49,4 +49,4 @@ module _ {x : Event} {t : Trace} (j : ℕ) (n : New x t) where
   knows_elsewhere away = (λ (k, s). (k, (seen_elsewhere j n away).1 s), λ (k, s). (k, (seen_elsewhere j n away).0 s))
 
   pub owes_elsewhere : {e : Edit} → ¬ At j x → Owes t j e ↔ Owes (x ∷ t) j e
-  owes_elsewhere away = (owes_grows, λ (f, s, r). let old = (seen_elsewhere j n away).0 s in (f, old, rest_shrinks (seen_in j old) r))
+  owes_elsewhere away = (owes_grows, λ (f, s, r). let was = (seen_elsewhere j n away).0 s in (f, was, rest_shrinks (seen_in j was) r))

@@ -36,7 +36,7 @@ module _ {t : Trace} (one : OneKind t) where
   needs_are_prior (through (pair k l b c) n) = prior_chains (needs_are_prior n) (k, l, b)
 
   pub never_prior_to_itself : {e : Edit} → Throughout New t → ¬ Prior t e e
-  never_prior_to_itself {e} new b = never_before_itself t (sent e b.0) new (before_whichever b (before_in b.2).0)
+  never_prior_to_itself {e} all_new b = never_before_itself t (sent e b.0) all_new (before_whichever b (before_in b.2).0)
 
   pair_passes_on : {e f g : Edit} → Prior t f g → Pair t f e → Needs t g e
   pair_passes_on (k, l, b) (pair i h c (inl q)) =

@@ -39,7 +39,7 @@ link_earlier : {a b : Event} {t : Trace} → Link t a b → Earlier a b t
 link_earlier (seat j h p q) = h
 link_earlier (message e k w j h p q) = h
 
-pub before_in : {a b : Event} {t : Trace} → Before t a b → (a ∈ t) × (b ∈ t)
+pub before_in : {a : Event} {t : Trace} {b : Event} → Before t a b → (a ∈ t) × (b ∈ t)
 before_in (link l) = earlier_in (link_earlier l)
 before_in (chain b l) = ((before_in b).0, (earlier_in (link_earlier l)).1)
 
@@ -47,7 +47,7 @@ earlier_old : {x a b : Event} {t : Trace} → Earlier a b (x ∷ t) → a ∈ t
 earlier_old (last q p) = p
 earlier_old (before h) = (earlier_in h).0
 
-pub before_old : {x a b : Event} {t : Trace} → Before (x ∷ t) a b → a ∈ t
+pub before_old : {x a : Event} {t : Trace} {b : Event} → Before (x ∷ t) a b → a ∈ t
 before_old (link l) = earlier_old (link_earlier l)
 before_old (chain b l) = before_old b
 
@@ -56,7 +56,7 @@ link_grows : {x a b : Event} {t : Trace} → Link t a b → Link (x ∷ t) a b
 link_grows (seat j h p q) = seat j (before h) p q
 link_grows (message e k w j h p q) = message e k w j (before h) p q
 
-pub before_grows : {x a b : Event} {t : Trace} → Before t a b → Before (x ∷ t) a b
+pub before_grows : {x a : Event} {t : Trace} {b : Event} → Before t a b → Before (x ∷ t) a b
 before_grows (link l) = link (link_grows l)
 before_grows (chain b l) = chain (before_grows b) (link_grows l)
 
@@ -86,8 +86,8 @@ module _ {x : Event} {t : Trace} (n : New x t) where
   pub before_shrinks : {a b : Event} → b ∈ t → Before (x ∷ t) a b → Before t a b
   before_shrinks p (link l) = link (link_shrinks p l)
   before_shrinks p (chain b l) =
-      let old = link_shrinks p l in
-      chain (before_shrinks (earlier_in (link_earlier old)).0 b) old
+      let was = link_shrinks p l in
+      chain (before_shrinks (earlier_in (link_earlier was)).0 b) was
 
   pair_shrinks : {e f : Edit} → Sent t e → Pair (x ∷ t) e f → Pair t e f
   pair_shrinks s (pair k l b c) = pair k l (before_shrinks (sent_before n s (before_in b).1) b) c

@@ -22,23 +22,23 @@ module _ (D : Model) {n : ℕ} {seats : ℕ → D.Seat} {packets : List D.Packet
   I = run_invariant D run
 
   one : OneKind t
-  one = one_kind t I.new
+  one = one_kind t I.all_new
 
   no_loop : {e : Edit} → ¬ Prior t e e
-  no_loop = never_prior_to_itself one I.new
+  no_loop = never_prior_to_itself one I.all_new
 
   covers_itself : {m : Packet} → Posted D t m → Covered (edit D m) (pastₘ m)
   covers_itself {m} posted = (posted.covers (edit D m)).1 (inl refl)
 
   -- Lemma 1: one message is causally before another exactly when its past is below the other's.
   pub lemma_1 : (m p : Packet) → m ∈ packets → p ∈ packets → Prior t (edit D m) (edit D p) ↔ Below (pastₘ m) (pastₘ p)
-  lemma_1 m p m-sent p-sent = (λ before. (within before, (sender p, strict before)), λ (less, (i, more)). first less i more)
+  lemma_1 m p m_sent p_sent = (λ before. (within before, (sender p, strict before)), λ (less, (i, more)). first less i more)
     where
       m_posted : Posted D t m
-      m_posted = I.posted m m-sent
+      m_posted = I.posted m m_sent
 
       p_posted : Posted D t p
-      p_posted = I.posted p p-sent
+      p_posted = I.posted p p_sent
 
       later : Prior t (edit D m) (edit D p) → (e : Edit) → PriorOrSame t e (edit D m) → Prior t e (edit D p)
       later before e =
@@ -73,10 +73,10 @@ module _ (D : Model) {n : ℕ} {seats : ℕ → D.Seat} {packets : List D.Packet
 
   -- Lemma 2.2: a message's barrier is below its past, and smaller at its sender.
   pub lemma_2_2 : (m : Packet) → m ∈ packets → Below (barrierₘ m) (pastₘ m) × (barrierₘ m (sender m) < pastₘ m (sender m))
-  lemma_2_2 m m-sent = ((within, (sender m, smaller)), smaller)
+  lemma_2_2 m m_sent = ((within, (sender m, smaller)), smaller)
     where
       m_posted : Posted D t m
-      m_posted = I.posted m m-sent
+      m_posted = I.posted m m_sent
 
       within : Within (barrierₘ m) (pastₘ m)
       within = covered_within (barrierₘ m) (pastₘ m) (λ e u. (m_posted.covers e).1 (inr (needs_are_prior one ((m_posted.waits e).0 u))))
@@ -89,17 +89,17 @@ module _ (D : Model) {n : ℕ} {seats : ℕ → D.Seat} {packets : List D.Packet
 
   -- Lemma 3: along the causal order of messages, barriers do not decrease.
   pub lemma_3 : (m p : Packet) → m ∈ packets → p ∈ packets → Prior t (edit D m) (edit D p) → Within (barrierₘ m) (barrierₘ p)
-  lemma_3 m p m-sent p-sent before =
+  lemma_3 m p m_sent p_sent before =
       covered_within (barrierₘ m) (barrierₘ p)
-      (λ e u. ((I.posted p p-sent).waits e).1 (needs_pass_on one before (((I.posted m m-sent).waits e).0 u)))
+      (λ e u. ((I.posted p p_sent).waits e).1 (needs_pass_on one before (((I.posted m m_sent).waits e).0 u)))
 
   -- Lemma 4: where m is causally before p and either is causal, p's barrier covers m.
   pub lemma_4 : (m p : Packet) → m ∈ packets → p ∈ packets → Pair t (edit D p) (edit D m) → pastₘ m (sender m) ≤ barrierₘ p (sender m)
-  lemma_4 m p m-sent p-sent bound = (((I.posted p p-sent).waits (edit D m)).1 (direct bound)).1
+  lemma_4 m p m_sent p_sent bound = (((I.posted p p_sent).waits (edit D m)).1 (direct bound)).1
 
   -- Safety: where f was sent causally before e and either is causal, each seat's hand-over of f is causally before its
   -- hand-over of e.
   pub safety : {e f : Edit} → Pair t e f → (w : Way) (j : ℕ) → handed w j e ∈ t → (v : Way) × Before t (handed v j f) (handed w j e)
   safety bound w j p =
-      let (v, earlier) = after_all_it_needs I.new I.kept p (direct bound) in
+      let (v, earlier) = after_all_it_needs I.all_new I.kept p (direct bound) in
       (v, link (seat j earlier refl refl))

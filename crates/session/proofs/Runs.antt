@@ -17,7 +17,7 @@ module _ (D : Model) where
 
   at_the_start : {n : ℕ} (seats : ℕ → Seat) → ((j : ℕ) → Seated n j → Fresh D (seats j)) → Invariant D n seats [] []
   at_the_start seats fresh = record {
-    new = tt;
+    all_new = tt;
     kept = tt;
     posted = λ m p. absurd (Memᴰ.not-nil p);
     counts = λ j s. record {

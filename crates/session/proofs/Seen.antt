@@ -57,11 +57,11 @@ module _ {x : Event} {t : Trace} (j : ℕ) (n : New x t) where
 
   -- an event elsewhere shows a seat nothing
   pub seen_elsewhere : {a : Event} → ¬ At j x → Seen (x ∷ t) j a ↔ Seen t j a
-  seen_elsewhere {a} away = (λ (y, m, h, r). old y m h r, seen_grows)
+  seen_elsewhere {a} away = (λ (y, m, h, r). was y m h r, seen_grows)
     where
-      old : (y : Event) → y ∈ (x ∷ t) → At j y → UpTo (x ∷ t) a y → Seen t j a
-      old y (Memᴰ.head q) h r = absurd (away (subst (λ (z : Event). At j z) q h))
-      old y (Memᴰ.tail m) h r = (y, m, h, up_to_settled m r)
+      was : (y : Event) → y ∈ (x ∷ t) → At j y → UpTo (x ∷ t) a y → Seen t j a
+      was y (Memᴰ.head q) h r = absurd (away (subst (λ (z : Event). At j z) q h))
+      was y (Memᴰ.tail m) h r = (y, m, h, up_to_settled m r)
 
   module _ (here : At j x) where
     last_in : {b : Event} → Earlier b x (x ∷ t) → b ∈ t

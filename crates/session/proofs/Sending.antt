@@ -32,7 +32,7 @@ module _ (D : Model) {n : ℕ} {seats seats' : ℕ → D.Seat} {packets : List D
       ((counts.knows (edit D m)).1 (l, (sent (edit D m) l, p, refl, inl refl)))
 
   one : OneKind (sent (edit D m) causal ∷ t)
-  one = one_kind (sent (edit D m) causal ∷ t) (sent_is_new, I.new)
+  one = one_kind (sent (edit D m) causal ∷ t) (sent_is_new, I.all_new)
 
   -- line 2
   past_covers : (e : Edit) → Covered e (pastₘ m) ↔ ((e ≡ edit D m) ⊎ Knows t (sender m) e)

@@ -19,16 +19,16 @@ module _ (D : Model) {n : ℕ} {seats seats' : ℕ → D.Seat} {packets : List D
 
   -- what was on the shelf, and the packet that came to it
   shelf_fits : ShelfFits D t (seats' j)
-  shelf_fits p y = ⊎_elim old (λ is. subst Fits (sym is) new) ((step.shelf_after_is p).0 y)
+  shelf_fits p y = ⊎_elim old_fits (λ is. subst Fits (sym is) new_fits) ((step.shelf_after_is p).0 y)
     where
       Fits : D.Packet → Type 0
       Fits d = Posted D t d × (¬ D.Marked (seats' j) (edit D d))
 
-      old : D.OnShelf (seats j) p → Fits p
-      old on = let (out, fresh) = (I.holds j seated).shelf p on in (out, λ z. fresh ((step.marks_after (edit D p)).0 z))
+      old_fits : D.OnShelf (seats j) p → Fits p
+      old_fits on = let (out, fresh) = (I.holds j seated).shelf p on in (out, λ z. fresh ((step.marks_after (edit D p)).0 z))
 
-      new : Fits m
-      new = (I.posted m mail, λ z. step.not_marked ((step.marks_after (edit D m)).0 z))
+      new_fits : Fits m
+      new_fits = (I.posted m mail, λ z. step.not_marked ((step.marks_after (edit D m)).0 z))
 
   moves : Moves D (shelved j (edit D m)) j (seats j) (seats' j)
   moves e = (

@@ -64,9 +64,9 @@ max_is_or d e h l =
 lowest_of_or : (x y : ℕ) → bit_or x y % 2 ≡ max (x % 2) (y % 2)
 lowest_of_or x y = ap (λ (n : ℕ). n % 2) (or_step x y) ∙ digits_mod (bit_or (x / 2) (y / 2)) (omega arith)
 
-pub bit_or : (x y j : ℕ) → bit (bit_or x y) j ≡ (bit x j || bit y j)
+pub bit_of_or : (x y j : ℕ) → bit (bit_or x y) j ≡ (bit x j || bit y j)
 unfolding bit
-bit_or x y j = rw (or_shr x y j, lowest_of_or (x / 2 ^ j) (y / 2 ^ j)) (max_is_or (x / 2 ^ j % 2) (y / 2 ^ j % 2) (omega arith) (omega arith))
+bit_of_or x y j = rw (or_shr x y j, lowest_of_or (x / 2 ^ j) (y / 2 ^ j)) (max_is_or (x / 2 ^ j % 2) (y / 2 ^ j % 2) (omega arith) (omega arith))
 
 -- the one bit of a power of two
 pub bit_power : (b j : ℕ) → bit (2 ^ b) j ≡ eqb j b

@@ -12,7 +12,7 @@ use lib.Dec.{leb, eqb}
 use lib.Pow.{pow-lt, shr_le}
 use Rattle.window.specs.Window.{bit, place, handed, trailing_ones, marked, advanced, handed_over}
 use Rattle.window.specs.declared.Window.{Window}
-use Rattle.window.proofs.Bits.{bit_moved, bit_or, bit_power, ones_are_set, next_is_clear}
+use Rattle.window.proofs.Bits.{bit_moved, bit_of_or, bit_power, ones_are_set, next_is_clear}
 
 -- ---- one number
 
@@ -46,7 +46,7 @@ marking_adds_one w s t h =
     elim (dec_le t w.run) [
       | yes low ↦ up_to_run_is_handed (marked w s) t low ∙ sym (rw (up_to_run_is_handed w t low))
       | no high ↦ let l : w.run < t = omega arith in
-          above_run_is_its_bit (marked w s) t l ∙ bit_or w.ahead (2 ^ place w s) (place w t)
+          above_run_is_its_bit (marked w s) t l ∙ bit_of_or w.ahead (2 ^ place w s) (place w t)
           ∙ ap₂ ◌||◌ (sym (above_run_is_its_bit w t l)) (bit_power (place w s) (place w t) ∙ same_place w s t h l)
     ]
 

@@ -12,7 +12,7 @@ use lib.Dec.{leb, lit<}
 use Rattle.vectors.proofs.Every.{and_both, all_at, all_of}
 use Rattle.window.specs.Window.{fresh_window, bit, place, handed, none_above, NoneAbove, sound_window, SoundWindow, marked, trailing_ones, advanced, handed_over}
 use Rattle.window.specs.declared.Window.{Window}
-use Rattle.window.proofs.Bits.{true_or_false, bit_none, bit_above, bit_moved, bit_or, bit_power, ones_at_most, ones_are_set}
+use Rattle.window.proofs.Bits.{true_or_false, bit_none, bit_above, bit_moved, bit_of_or, bit_power, ones_at_most, ones_are_set}
 use Rattle.window.proofs.Handed.{above_run_is_its_bit, marked_fits, handed_over_clears_next}
 
 -- ---- the tests and the facts
@@ -67,7 +67,7 @@ unfolding marked
 marking_keeps_none_above bound w s none h l b i set =
     elim (ℕ_discrete b (place w s)) [
       | yes own ↦ omega arith
-      | no other ↦ none b i (rw (bit_or w.ahead (2 ^ place w s) b, bit_power (place w s) b, ne_eqb b (place w s) other, or-false) at set)
+      | no other ↦ none b i (rw (bit_of_or w.ahead (2 ^ place w s) b, bit_power (place w s) b, ne_eqb b (place w s) other, or-false) at set)
     ]
 
 module _ (bound : ℕ) (w : Window) (none : NoneAbove bound w) where
