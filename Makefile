@@ -9,7 +9,7 @@ LIST = outside/lists/document.list
 
 all:
 	rt check
-	rt staticlib tautrobin
+	outside/library.sh
 	@echo
 	@outside/lists/run.sh outside/lists/document.list
 	@echo

@@ -14,7 +14,7 @@ check() {
 
 rt ci 2>&1 | tee "$verdict"
 echo
-check rt staticlib tautrobin
+check outside/library.sh
 check outside/examples/test.sh
 check outside/lists/test.sh
 check outside/compare/run.sh

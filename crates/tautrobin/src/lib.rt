@@ -1,4 +1,5 @@
-// The four steps, exported to C on numbers and byte slices (document 01, "For the package, which is written in C").
+// The four steps on numbers and byte slices (document 01, "For the package, which is written in C"). Crate tautrobin_c
+// exports them to C.
 #![tactic(auto)]
 
 mod image;
@@ -35,6 +36,7 @@ fn pack(told: Report) -> u64
 }
 
 // The kind that is wished for: 0 is ordinary, 1 causal and 2 usual.
+#[tactic(auto, unfolding(crate::specs::Calls::wish_of))]
 fn wish_of(kind: u32) -> Wish
     ensures { result ≡ wish_of kind }
 {
@@ -46,6 +48,7 @@ fn wish_of(kind: u32) -> Wish
 }
 
 // The answer of a step; on 0 and 1 the next state goes to the image. The callers have found the image's length to be right.
+#[tactic(auto, using(crate::proofs::Reporting::left_alone, crate::proofs::Reporting::goes_in))]
 fn keep(stepped: Stepped, state: &mut [u8]) -> u64
     requires { (length state.old ≡ image_size) × ((report stepped.answer).answer ≤ 1 → Numbered stepped.seat) }
     ensures { Kept stepped state.old result state.new }
@@ -61,6 +64,7 @@ fn keep(stepped: Stepped, state: &mut [u8]) -> u64
 }
 
 // The same, where the next state is another than the image's in past and barrier alone.
+#[tactic(auto, using(crate::proofs::Reporting::left_alone, crate::proofs::Reporting::goes_in))]
 fn keep_counts(stepped: Stepped, state: &mut [u8]) -> u64
     requires { (length state.old ≡ image_size) × Recounted stepped.seat (decoded state.old) }
     ensures { Kept stepped state.old result state.new }
@@ -76,8 +80,8 @@ fn keep_counts(stepped: Stepped, state: &mut [u8]) -> u64
 }
 
 // Opens a seat, and zeroes its shelf.
-#[unsafe(no_mangle)]
-pub extern "C" fn tautrobin_open(n: u32, own: u32, state: &mut [u8], shelf: &mut [u8]) -> u64
+#[tactic(auto, using(crate::proofs::OpenCall::own_number_above_is_20, crate::proofs::Reporting::packed_bare, crate::proofs::Reporting::left_alone))]
+pub fn tautrobin_open(n: u32, own: u32, state: &mut [u8], shelf: &mut [u8]) -> u64
     ensures { OpenCalled n own state.old shelf.old result state.new shelf.new }
 {
     if 255 < n {
@@ -99,8 +103,7 @@ pub extern "C" fn tautrobin_open(n: u32, own: u32, state: &mut [u8], shelf: &mut
 }
 
 // Sends an edit: its packet goes to the start of the output.
-#[unsafe(no_mangle)]
-pub extern "C" fn tautrobin_send(state: &mut [u8], kind: u32, body: &[u8], out: &mut [u8]) -> u64
+pub fn tautrobin_send(state: &mut [u8], kind: u32, body: &[u8], out: &mut [u8]) -> u64
     ensures { SendCalled state.old kind body.now out.old result state.new out.new }
 {
     if state.len() != IMAGE_SIZE {
@@ -118,8 +121,7 @@ pub extern "C" fn tautrobin_send(state: &mut [u8], kind: u32, body: &[u8], out: 
 }
 
 // A packet arrives: it is handed over, put on the shelf, or refused.
-#[unsafe(no_mangle)]
-pub extern "C" fn tautrobin_arrive(state: &mut [u8], shelf: &mut [u8], packet: &[u8]) -> u64
+pub fn tautrobin_arrive(state: &mut [u8], shelf: &mut [u8], packet: &[u8]) -> u64
     ensures { ArriveCalled state.old shelf.old packet.now result state.new shelf.new }
 {
     if state.len() != IMAGE_SIZE {
@@ -131,8 +133,7 @@ pub extern "C" fn tautrobin_arrive(state: &mut [u8], shelf: &mut [u8], packet: &
 }
 
 // The ready packet on the shelf that comes first is handed over: its body goes to the output, and its slot is freed.
-#[unsafe(no_mangle)]
-pub extern "C" fn tautrobin_release(state: &mut [u8], shelf: &mut [u8], out: &mut [u8]) -> u64
+pub fn tautrobin_release(state: &mut [u8], shelf: &mut [u8], out: &mut [u8]) -> u64
     ensures { ReleaseCalled state.old shelf.old out.old result state.new shelf.new out.new }
 {
     if state.len() != IMAGE_SIZE {

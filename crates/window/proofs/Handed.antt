@@ -12,7 +12,7 @@ use lib.Dec.{leb, eqb}
 use lib.Pow.{pow-lt, shr_le}
 use Rattle.window.specs.Window.{bit, place, handed, trailing_ones, marked, advanced, handed_over}
 use Rattle.window.specs.declared.Window.{Window}
-use Rattle.window.proofs.Bits.{bit_moved, bit_of_or, bit_power, ones_are_set, next_is_clear}
+use Rattle.window.proofs.Bits.{bit_above, bit_moved, bit_of_or, bit_power, ones_are_set, next_is_clear}
 
 -- ---- one number
 
@@ -23,6 +23,10 @@ up_to_run_is_handed w t h = rw (le-leb t w.run h)
 pub above_run_is_its_bit : (w : Window) (t : ℕ) → w.run < t → handed w t ≡ bit w.ahead (place w t)
 unfolding handed
 above_run_is_its_bit w t h = rw (lt-leb t w.run h)
+
+-- beyond the word no number is marked
+pub beyond_the_word_is_not_handed : (w : Window) (t : ℕ) → w.run < t → w.ahead < 2 ^ 64 → 64 ≤ place w t → handed w t ≡ false
+beyond_the_word_is_not_handed w t h fits far = above_run_is_its_bit w t h ∙ bit_above w.ahead 64 (place w t) fits far
 
 pub not_handed_is_above_run : (w : Window) (t : ℕ) → handed w t ≡ false → w.run < t
 not_handed_is_above_run w t e =

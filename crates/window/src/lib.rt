@@ -24,6 +24,7 @@ impl Window {
     }
 
     // Whether a number is handed over.
+    #[tactic(auto, using(crate::proofs::Handed::beyond_the_word_is_not_handed))]
     pub fn holds(self, number: EditNo) -> bool
         ensures { result ≡ handed self number.0 }
     {
@@ -46,6 +47,7 @@ impl Window {
     }
 
     // Whether the window is sound beside its sender's entry of past.
+    #[tactic(auto, using(crate::proofs::Computed::sound_without_marks))]
     pub fn is_sound(self, past: u16) -> bool
         ensures { result ≡ sound_window past self }
     {
@@ -74,6 +76,7 @@ impl Window {
     }
 
     // Run moves over the unbroken run of marked numbers. No number above 65,535 is marked, so that run stays a count.
+    #[tactic(auto, using(crate::proofs::Computed::advanced_by_all))]
     fn advance(self) -> Window
         requires { none_above 65535 self ≡ true }
         ensures { result ≡ advanced self }

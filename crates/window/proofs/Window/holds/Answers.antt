@@ -1,15 +1,11 @@
 -- `Window::holds` meets its contract.
-use Rattle.std.proofs.Common.{sym, ◌∙◌, arith}
+use Rattle.std.proofs.Common.{sym, arith}
 use Rattle.window.specs.Window.{bit}
-use Rattle.window.proofs.Bits.{bit_above}
 use Rattle.window.proofs.Handed.{up_to_run_is_handed, above_run_is_its_bit}
 use Rattle.window.proofs.Window.holds.Goals as goal
 
 pub returns-then-number-self : goal.returns-then-number-self
 returns-then-number-self c = sym (up_to_run_is_handed _ _ (omega arith))
-
-pub returns-then-place-ge64 : goal.returns-then-place-ge64
-returns-then-place-ge64 c = sym (above_run_is_its_bit _ _ (omega arith) ∙ bit_above _ 64 _ (omega arith) (omega arith))
 
 pub returns : goal.returns
 unfolding bit
