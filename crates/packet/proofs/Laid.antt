@@ -88,6 +88,10 @@ module _ (kind : Kind) (header : Header) (past barrier body : List ℕ) where
     unfolding write_output
     done_write after e a = record { answered = sym e; output = rw e a }
 
+    -- a body that is too long
+    pub long_leaves_output : 200 < length body → write_output kind header past barrier body out ≡ out
+    long_leaves_output long = sym (refused_write (answer_11 long)).output
+
 -- ---- what an answer tells
 
 no_clash : (edit : Edit) (refusal : Refusal) → Refused refusal ≡ Done edit → ⊥

@@ -108,6 +108,7 @@ pub fn body(packet: &[u8]) -> &[u8]
 }
 
 // The packet goes to the start of the output.
+#[tactic(auto, using(crate::proofs::Laid::answer_11, crate::proofs::Laid::long_leaves_output))]
 pub fn write(
     kind: Kind,
     header: Header,
