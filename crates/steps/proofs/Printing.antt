@@ -41,27 +41,27 @@ wrote_prints {out} {after} {bytes} {at} {next} wrote room =
 
 -- ---- a line after the first
 
-module _ (number at end : ℕ) (out out-left line : List ℕ) (before : Session) (walk : Walk) (shelves packets : List ℕ) (now-walked : Walked) (step : Step)
-    (is : step ≡ read_step line) (so : Walks (step_told before step) now-walked shelves packets)
-    (wrote : Wrote out at (line_of number now-walked.report) end out-left) (short : length (line_of number now-walked.report) ≤ answer_most) (room : at + answer_most ≤ length out) where
+module _ (number at end : ℕ) (out out-left line : List ℕ) (before : Session) (walk : Walk) (shelves packets : List ℕ) (walked-on : Walked) (step : Step)
+    (is : step ≡ read_step line) (so : Walks (step_told before step) walked-on shelves packets)
+    (wrote : Wrote out at (line_of number walked-on.report) end out-left) (short : length (line_of number walked-on.report) ≤ answer_most) (room : at + answer_most ≤ length out) where
   pub step_prints : (lines : List (List ℕ))
-      → take end out-left ++ for_lines Walking (number + 1) (session_in now-walked.walk shelves packets) lines ≡ take at out ++ walked number before (line ∷ lines)
+      → take end out-left ++ for_lines Walking (number + 1) (session_in walked-on.walk shelves packets) lines ≡ take at out ++ walked number before (line ∷ lines)
   unfolding for_lines walked
   step_prints lines =
       (λ p. wrote_prints wrote (omega arith) p ++ walked (add-one number p) (so.session_is p) lines)
-      ∙ append_assoc (take at out) (line_of number now-walked.report) (walked (suc number) (step_told before step).session lines)
+      ∙ append_assoc (take at out) (line_of number walked-on.report) (walked (suc number) (step_told before step).session lines)
       ∙ (λ p. take at out ++ (line_of number (so.report_is p) ++ walked (suc number) (step_told before step).session lines))
       ∙ (λ p. take at out ++ (line_of number (step_told before (is p)).report ++ walked (suc number) (step_told before (is p)).session lines))
 
-pub step_taken : (number at : ℕ) (out line : List ℕ) (before : Session) {end : ℕ} {out-left shelves packets : List ℕ} (now-walked : Walked) (step : Step) → step ≡ read_step line
-    → Walks (step_told before step) now-walked shelves packets → Wrote out at (line_of number now-walked.report) end out-left → length (line_of number now-walked.report) ≤ answer_most
+pub step_taken : (number at : ℕ) (out line : List ℕ) (before : Session) {end : ℕ} {out-left shelves packets : List ℕ} (walked-on : Walked) (step : Step) → step ≡ read_step line
+    → Walks (step_told before step) walked-on shelves packets → Wrote out at (line_of number walked-on.report) end out-left → length (line_of number walked-on.report) ≤ answer_most
     → at + answer_most ≤ length out → (fresh : Line) → fresh.length ≡ 0 → length fresh.bytes ≡ line_most
     → LineTaken number (λ lines. walked number before (line ∷ lines)) out at
-    (record { course = record { stage = Walking; number = number + 1; line = fresh; walk = now-walked.walk }; end = end }) shelves packets out-left
+    (record { course = record { stage = Walking; number = number + 1; line = fresh; walk = walked-on.walk }; end = end }) shelves packets out-left
 unfolding for_lines walked
-step_taken number at out line before {end} {out-left} {shelves} {packets} now-walked step is so wrote short room fresh none long =
+step_taken number at out line before {end} {out-left} {shelves} {packets} walked-on step is so wrote short room fresh none long =
     record {
-      prints = step_prints number at end out out-left line before now-walked.walk shelves packets now-walked step is so wrote short room;
+      prints = step_prints number at end out out-left line before walked-on.walk shelves packets walked-on step is so wrote short room;
       no_more = refl;
       fresh = none;
       line_long = long;

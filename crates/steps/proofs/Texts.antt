@@ -137,12 +137,12 @@ module _ (course : Course) (text : List ℕ) (from feed : ℕ) (next : Line) (re
 -- ---- a whole piece
 
 -- so far: what is printed, and what is still to be printed, are what was to be printed
-pub record Going (course : Course) (text shelves₀ packets₀ : List ℕ) (room : ℕ) (shelves packets out : List ℕ) (now : Course) (end from : ℕ) : Type 0 where
+pub record Going (course : Course) (text shelves₀ packets₀ : List ℕ) (room : ℕ) (shelves packets out : List ℕ) (current : Course) (end from : ℕ) : Type 0 where
   pub inside : from ≤ length text
-  pub prints : (rest : List ℕ) → take end out ++ still now shelves packets (drop from text ++ rest) ≡ still course shelves₀ packets₀ (text ++ rest)
-  pub ready : Ready now
+  pub prints : (rest : List ℕ) → take end out ++ still current shelves packets (drop from text ++ rest) ≡ still course shelves₀ packets₀ (text ++ rest)
+  pub ready : Ready current
   pub high : end ≤ answer_most * from
-  pub counts : now.number ≤ course.number + from
+  pub counts : current.number ≤ course.number + from
   pub same_room : length out ≡ room
 
 module _ (course : Course) (text shelves₀ packets₀ out₀ : List ℕ) where
@@ -150,11 +150,11 @@ module _ (course : Course) (text shelves₀ packets₀ out₀ : List ℕ) where
   nothing_yet ready =
       record { inside = omega arith; prints = λ rest. refl; ready = ready; high = omega arith; counts = omega arith; same_room = refl }
 
-  pub goes_further : (shelves packets out : List ℕ) (now : Course) (end from : ℕ) (went : Went) (shelves-left packets-left out-left : List ℕ)
-      → Going course text shelves₀ packets₀ (length out₀) shelves packets out now end from
-      → TextTaken now text from shelves packets out end went shelves-left packets-left out-left → length out-left ≡ length out
+  pub goes_further : (shelves packets out : List ℕ) (current : Course) (end from : ℕ) (went : Went) (shelves-left packets-left out-left : List ℕ)
+      → Going course text shelves₀ packets₀ (length out₀) shelves packets out current end from
+      → TextTaken current text from shelves packets out end went shelves-left packets-left out-left → length out-left ≡ length out
       → Going course text shelves₀ packets₀ (length out₀) shelves-left packets-left out-left went.course went.end went.next
-  goes_further shelves packets out now end from went shelves-left packets-left out-left so more long =
+  goes_further shelves packets out current end from went shelves-left packets-left out-left so more long =
       record {
         inside = more.inside;
         prints = λ rest. more.prints rest ∙ so.prints rest;
@@ -164,13 +164,13 @@ module _ (course : Course) (text shelves₀ packets₀ out₀ : List ℕ) where
         same_room = long ∙ so.same_room;
       }
 
-  pub all_taken : (shelves packets out : List ℕ) (now : Course) (end from : ℕ) → length text ≤ from
-      → Going course text shelves₀ packets₀ (length out₀) shelves packets out now end from
-      → PieceTaken course text shelves₀ packets₀ (record { course = now; end = end }) shelves packets out
-  all_taken shelves packets out now end from past so =
+  pub all_taken : (shelves packets out : List ℕ) (current : Course) (end from : ℕ) → length text ≤ from
+      → Going course text shelves₀ packets₀ (length out₀) shelves packets out current end from
+      → PieceTaken course text shelves₀ packets₀ (record { course = current; end = end }) shelves packets out
+  all_taken shelves packets out current end from past so =
       let e : from ≡ length text = omega (arith, so.inside) in
       record {
-        prints = λ rest. (λ p. take end out ++ still now shelves packets (sym (ap (λ (k : ℕ). drop k text) e ∙ drop-length text) p ++ rest)) ∙ so.prints rest;
+        prints = λ rest. (λ p. take end out ++ still current shelves packets (sym (ap (λ (k : ℕ). drop k text) e ∙ drop-length text) p ++ rest)) ∙ so.prints rest;
         ready = so.ready;
         high = omega (arith, so.high);
         counts = omega (arith, so.counts);

@@ -302,16 +302,19 @@ pub fn take_piece(
     requires { Ready course × (course.number + length text.now ≤ number_most) × (length shelves.old ≡ shelves_size) × (length packets.old ≡ packets_size) × (answer_most * length text.now ≤ length out.old) }
     ensures { PieceTaken course text.now shelves.old packets.old result shelves.new packets.new out.new }
 {
-    let mut now = course;
+    let mut current = course;
     let mut end = 0;
     let mut from = 0;
     while from < text.len() {
-        let went = take_text(now, text, from, shelves, packets, out, end);
-        now = went.course;
+        let went = take_text(current, text, from, shelves, packets, out, end);
+        current = went.course;
         end = went.end;
         from = went.next;
     }
-    Taken { course: now, end }
+    Taken {
+        course: current,
+        end,
+    }
 }
 
 // The input has ended: text after the last line feed is a line too. The caller lends the same buffers.

@@ -1,0 +1,6 @@
+-- `refuse_list` meets its contract.
+use Rattle.steps.proofs.Printing.{list_refused}
+use Rattle.steps.proofs.list.refuse_list.Goals as goal
+
+pub returns : goal.returns
+returns c = λ number shelves packets. list_refused c.put_answer-end.ensures c.ended.ensures c.requires.0 c.requires.1
