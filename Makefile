@@ -8,15 +8,16 @@
 LIST = outside/lists/document.list
 
 all:
-	rt check
+	rt all check
 	outside/library.sh
+	outside/program.sh
 	@echo
 	@outside/lists/run.sh outside/lists/document.list
 	@echo
 	@outside/examples/run.sh
 
 run:
-	@test -x target/bin/steplist || rt check steplist
+	@test -x target/bin/steplist || outside/program.sh
 	@outside/lists/run.sh "$(LIST)"
 
 test:

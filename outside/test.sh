@@ -13,8 +13,10 @@ check() {
 }
 
 rt ci 2>&1 | tee "$verdict"
+! grep -Eq '^rt: ok.*, [1-9][0-9]* bad' "$verdict" || { echo 'FAILED: a must-fail edit is bad'; exit 1; }
 echo
 check outside/library.sh
+check outside/program.sh
 check outside/examples/test.sh
 check outside/lists/test.sh
 check outside/compare/run.sh
