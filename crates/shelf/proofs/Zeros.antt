@@ -31,6 +31,9 @@ module _ (s : List ℕ) where
   unfolding all_zero
   one_byte_not_zero k h some = all_fails (λ j. eqb (get_or s j 0) 0) (length s) k h (ne_eqb (get_or s k 0) 0 some)
 
+  pub first_byte_not_zero : 0 < length s → (get_or s 0 0 ≡ 0 → ⊥) → all_zero s ≡ false
+  first_byte_not_zero h some = one_byte_not_zero 0 h some
+
   pub all_zero_are_zeros : all_zero s ≡ true → s ≡ replicate (length s) 0
   all_zero_are_zeros e =
       ext_get_or 0 s (replicate (length s) 0) (sym (length-replicate (length s) 0)) (λ k h. all_zero_at k e ∙ sym (get_or-replicate (length s) k 0 0 h))

@@ -46,6 +46,7 @@ pub fn is_zero(s: &[u8]) -> bool
 }
 
 // Whether a slot is free. One that is in use shows it by its first byte. The callers hand over a whole slot.
+#[tactic(auto, using(crate::proofs::Zeros::first_byte_not_zero))]
 pub fn is_free(slot: &[u8]) -> bool
     requires { length slot.now ≡ slot_size }
     ensures { result ≡ all_zero slot.now }
