@@ -1,7 +1,7 @@
 # make        proves and builds every crate and the library for C, walks document 01's step list, and shows two seats on the
 #             evening of the decimal comma
 # make run    walks a step list of yours: make run LIST=FILE
-# make test   the gate: proves everything from nothing, tries the wrong programs, and holds library and program against
+# make test   the gate: proves every crate, tries the wrong programs, and holds library and program against
 #             the second ones; its last line is the verdict on the crates
 .PHONY: all run test
 

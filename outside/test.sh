@@ -1,5 +1,5 @@
 #!/usr/bin/env bash
-# The gate: every crate from nothing with the wrong programs, then the checks that proofs cannot reach. The last line
+# The gate: every crate with the wrong programs, then the checks that proofs cannot reach. The last line
 # is the verdict on the crates.
 set -euo pipefail
 cd "$(dirname "$0")/.."
