@@ -8,23 +8,23 @@ use Rattle.lines.proofs.answer.put_answer.Goals as goal
 
 pub put_number-answer_at-requires : goal.put_number-answer_at-requires
 put_number-answer_at-requires c =
-    let fits : InRange c.args.number c.args.answer c.args.sender c.args.edit = record { number_fits = search rules; answer_fits = search rules; sender_fits = search rules; edit_fits = search rules } in
+    let fits : InRange c.args.number c.args.answer c.args.sender c.args.edit = search rules in
     omega (arith, c.requires, to_number_short fits)
 
 pub put_spaced-sender_at-requires : goal.put_spaced-sender_at-requires
 put_spaced-sender_at-requires c =
-    let fits : InRange c.args.number c.args.answer c.args.sender c.args.edit = record { number_fits = search rules; answer_fits = search rules; sender_fits = search rules; edit_fits = search rules } in
+    let fits : InRange c.args.number c.args.answer c.args.sender c.args.edit = search rules in
     wrote_room (spaced c.args.answer) answer_most c.put_number-answer_at.ensures (to_answer_short fits) c.requires
 
 pub put_spaced-edit_at-requires : goal.put_spaced-edit_at-requires
 put_spaced-edit_at-requires c =
-    let fits : InRange c.args.number c.args.answer c.args.sender c.args.edit = record { number_fits = search rules; answer_fits = search rules; sender_fits = search rules; edit_fits = search rules } in
+    let fits : InRange c.args.number c.args.answer c.args.sender c.args.edit = search rules in
     let to_answer = wrote_then c.put_number-answer_at.ensures c.put_spaced-sender_at.ensures in
     wrote_room (spaced c.args.sender) answer_most to_answer (to_sender_short fits) c.requires
 
 pub put_spaced-end-requires : goal.put_spaced-end-requires
 put_spaced-end-requires c =
-    let fits : InRange c.args.number c.args.answer c.args.sender c.args.edit = record { number_fits = search rules; answer_fits = search rules; sender_fits = search rules; edit_fits = search rules } in
+    let fits : InRange c.args.number c.args.answer c.args.sender c.args.edit = search rules in
     let to_answer = wrote_then c.put_number-answer_at.ensures c.put_spaced-sender_at.ensures in
     let to_sender = wrote_then to_answer c.put_spaced-edit_at.ensures in
     wrote_room (spaced c.args.edit) answer_most to_sender (to_edit_short fits) c.requires
@@ -32,7 +32,7 @@ put_spaced-end-requires c =
 pub bounds-out-end : goal.bounds-out-end
 unfolding answer_line
 bounds-out-end c =
-    let fits : InRange c.args.number c.args.answer c.args.sender c.args.edit = record { number_fits = search rules; answer_fits = search rules; sender_fits = search rules; edit_fits = search rules } in
+    let fits : InRange c.args.number c.args.answer c.args.sender c.args.edit = search rules in
     let to_answer = wrote_then c.put_number-answer_at.ensures c.put_spaced-sender_at.ensures in
     let to_edit = wrote_then (wrote_then to_answer c.put_spaced-edit_at.ensures) c.put_spaced-end.ensures in
     omega (arith, wrote_room (line_feed ∷ []) answer_most to_edit (answer_line_short fits) c.requires)
@@ -40,7 +40,7 @@ bounds-out-end c =
 pub overflow_add-result : goal.overflow_add-result
 unfolding answer_line
 overflow_add-result c =
-    let fits : InRange c.args.number c.args.answer c.args.sender c.args.edit = record { number_fits = search rules; answer_fits = search rules; sender_fits = search rules; edit_fits = search rules } in
+    let fits : InRange c.args.number c.args.answer c.args.sender c.args.edit = search rules in
     let to_answer = wrote_then c.put_number-answer_at.ensures c.put_spaced-sender_at.ensures in
     let to_edit = wrote_then (wrote_then to_answer c.put_spaced-edit_at.ensures) c.put_spaced-end.ensures in
     omega (arith, wrote_room (line_feed ∷ []) answer_most to_edit (answer_line_short fits) c.requires, wrote_long to_edit)

@@ -6,5 +6,5 @@ use Rattle.steps.proofs.list.put_report.Goals as goal
 pub returns : goal.returns
 returns c =
     let report = c.args.report in
-    let fits : InRange c.args.number report.answer report.edit.sender.0 report.edit.number.0 = record { number_fits = search rules; answer_fits = search rules; sender_fits = search rules; edit_fits = search rules } in
+    let fits : InRange c.args.number report.answer report.edit.sender.0 report.edit.number.0 = search rules in
     (c.put_answer.ensures, answer_line_short fits)
