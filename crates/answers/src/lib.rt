@@ -1,12 +1,22 @@
 // What a call answers, and the numbers of seats and edits that answers speak of (document 01, "Answer numbers").
 #![tactic(auto)]
 
-ghost use Rattle.std.specs.Prelude.{◌≡◌};
+ghost use Rattle.std.specs.Prelude.{◌≡◌, ◌-◌, ◌≤◌};
 ghost use Rattle.answers.specs.Answers.{refusal_number, bare, report};
 
 // A seat's number, 1 to n.
 #[derive(Clone, Copy, Default)]
 pub struct SeatNo(pub u8);
+
+impl SeatNo {
+    // Where the seat's entry stands in a vector.
+    pub fn index(self) -> usize
+        requires { 1 ≤ self.0 }
+        ensures { result ≡ self.0 - 1 }
+    {
+        (self.0 - 1) as usize
+    }
+}
 
 // An edit's sequence number among its sender's, from 1.
 #[derive(Clone, Copy, Default)]

@@ -4,3 +4,4 @@ pub mod Told
 pub mod Laid
 pub mod RoundTrip
 pub mod Settled
+pub mod PointNumbers

@@ -23,7 +23,7 @@ use Rattle.packet.specs.declared.Kind.{Kind}
 use Rattle.packet.specs.declared.Kind.TheVariants.{Ordinary, Causal}
 use Rattle.packet.specs.declared.Header.{Header}
 use Rattle.packet.specs.declared.Heading.{Heading}
-use Rattle.packet.specs.declared.ReadAnswer.TheVariants.{Packet}
+use Rattle.std.specs.Prelude.{Ok}
 use Rattle.packet.proofs.Formed.{Head, Formed, formed, well, vectors_have, vectors_pass}
 use Rattle.packet.proofs.Told.{told, read_formed, body_formed}
 use Rattle.packet.proofs.Writable.{InRange, is_in_range, range_holds, Writable, can_be_written, writable_holds}
@@ -244,7 +244,7 @@ pub record WritesAgain (packet out : List ℕ) (heading : Heading) : Type 0 wher
       ≡ Done (record { sender = heading.sender; number = edit_no (entry (read_of packet).past heading.sender); length = length packet })
   pub output : write_output heading.kind (header_in heading) (read_of packet).past (read_of packet).barrier (body_of packet) out ≡ at_start packet out
 
-pub read_writes_again : (packet out : List ℕ) (heading : Heading) → Bytes packet → length packet ≤ length out → (read_of packet).answer ≡ Packet heading
+pub read_writes_again : (packet out : List ℕ) (heading : Heading) → Bytes packet → length packet ≤ length out → (read_of packet).answer ≡ Ok heading
     → WritesAgain packet out heading
 read_writes_again packet out heading bytes room answered =
     let t = told packet (read_of packet) refl heading answered in

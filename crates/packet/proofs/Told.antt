@@ -7,13 +7,14 @@ use native.Mathlib.Decide.{ℕ_discrete}
 use native.Mathlib.Omega.{arith}
 use lib.ListN.{length, drop}
 use borrow.Author.Tests.{eq-eqb, ne_eqb}
+use Rattle.std.specs.Prelude.{Result, Ok, Err}
+use Rattle.answers.specs.declared.Refusal.{Refusal}
 use Rattle.vectors.specs.Vectors.{zero_above}
 use Rattle.vectors.proofs.Vector.{length_vector}
 use Rattle.vectors.proofs.Tests.{zero_above_vector}
 use Rattle.packet.specs.Packet.{seats_of, sender_of, kind_of, body_length_of, past_of, barrier_of, body_at, packet_length, head_point, vectors_point, first_bad_point}
 use Rattle.packet.specs.Reading.{refused, message, header_of, headed, read_of, body_of}
 use Rattle.packet.specs.declared.Heading.{Heading}
-use Rattle.packet.specs.declared.ReadAnswer.TheVariants.{Refused, Packet}
 use Rattle.packet.specs.declared.Reading.{Reading}
 use Rattle.packet.proofs.Formed.{Ordered, formed, bad_head, bad_vectors}
 
@@ -93,20 +94,26 @@ told_of packet z =
       ordered = f.ordered;
     }
 
-clash : (heading : Heading) → Packet heading ≡ Refused → ⊥
-clash heading e = let z : ◌≡◌ {A = ℕ} 0 1 = cc in omega arith
+clash : (heading : Heading) (refusal : Refusal) → ◌≡◌ {A = Result Heading Refusal} (Ok heading) (Err refusal) → ⊥
+clash heading refusal e = let z : ◌≡◌ {A = ℕ} 0 1 = cc in omega arith
 
 module _ (packet : List ℕ) (reading : Reading) (is : reading ≡ read_of packet) where
-  pub told : (heading : Heading) → reading.answer ≡ Packet heading → Told packet reading heading
+  pub told : (heading : Heading) → reading.answer ≡ Ok heading → Told packet reading heading
   told heading answered =
       elim (ℕ_discrete (first_bad_point packet) 0) [
         | yes z ↦
             (let good = is ∙ read_formed packet z in
-            let same : Packet heading ≡ Packet (headed (kind_of packet) (header_of packet)) = sym answered ∙ ap (λ (r : Reading). r.answer) good in
+            let same : ◌≡◌ {A = Result Heading Refusal} (Ok heading) (Ok (headed (kind_of packet) (header_of packet))) = sym answered ∙ ap (λ (r : Reading). r.answer) good in
             let same_heading : heading ≡ headed (kind_of packet) (header_of packet) = cc in
             rw (same_heading, good) (told_of packet z))
-        | no bad ↦ absurd (clash heading (sym answered ∙ ap (λ (r : Reading). r.answer) (is ∙ read_refused packet bad)))
+        | no bad ↦ absurd (clash heading _ (sym answered ∙ ap (λ (r : Reading). r.answer) (is ∙ read_refused packet bad)))
       ]
 
-  pub told_refused : reading.answer ≡ Refused → first_bad_point packet ≡ 0 → ⊥
-  told_refused answered z = clash _ (sym (ap (λ (r : Reading). r.answer) (is ∙ read_formed packet z)) ∙ answered)
+  pub told_refused : (refusal : Refusal) → reading.answer ≡ Err refusal → first_bad_point packet ≡ 0 → ⊥
+  told_refused refusal answered z = clash _ _ (sym (ap (λ (r : Reading). r.answer) (is ∙ read_formed packet z)) ∙ answered)
+
+-- ---- a message that was read
+
+pub message_is_read : (packet : List ℕ) (heading : Heading) (past barrier : List ℕ) → first_bad_point packet ≡ 0 → heading ≡ headed (kind_of packet) (header_of packet)
+    → past ≡ past_of packet → barrier ≡ barrier_of packet → record { answer = Ok heading; past = past; barrier = barrier } ≡ read_of packet
+message_is_read packet heading past barrier well h p b = (λ i. record { answer = Ok (h i); past = p i; barrier = b i }) ∙ sym (read_formed packet well)

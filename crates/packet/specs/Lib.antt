@@ -1,3 +1,4 @@
 pub mod Packet
+pub mod Points
 pub mod Reading
 pub mod Writing

@@ -1,17 +1,19 @@
 // The packet that carries an edit over the link: reading it, its body, and writing it (document 01, "Packet").
 #![tactic(auto)]
 
-mod layout;
+mod message;
 mod points;
 
-ghost use Rattle.std.specs.Prelude.{◌≡◌};
-ghost use Rattle.packet.specs.Reading.{refused, read_of, body_of};
-ghost use Rattle.packet.specs.Writing.{Written};
+ghost use Rattle.std.specs.Prelude.{◌≡◌, IfOk};
+ghost use Rattle.packet.specs.Packet.{kind_of, past_of, barrier_of, first_bad_point};
+ghost use Rattle.packet.specs.Points.{failed};
+ghost use Rattle.packet.specs.Reading.{headed, header_of, read_of, body_of};
+ghost use Rattle.packet.specs.Writing.{in_range, Written};
 
-use answers::{Answer, Edit, EditNo, Refusal, SeatNo};
-pub use layout::put_packet;
-pub use points::in_range;
-use points::{can_write, head_point, kind_of, vectors_point};
+use answers::{Answer, Edit, Refusal, SeatNo};
+pub use message::Message;
+pub use points::Point;
+use points::read_heading;
 use vectors::bytes::fields;
 
 // The bytes before past.
@@ -20,10 +22,11 @@ pub const HEAD_LEN: usize = 3;
 // The most bytes that a body has.
 pub const BODY_MOST: usize = 200;
 
+// An edit's kind, with its bit in a packet.
 #[derive(Clone, Copy)]
 pub enum Kind {
-    Ordinary,
-    Causal,
+    Ordinary = 0,
+    Causal = 1,
 }
 
 // What writing takes beside the kind.
@@ -41,53 +44,64 @@ pub struct Heading {
     pub kind: Kind,
 }
 
-#[derive(Clone, Copy)]
-pub enum ReadAnswer {
-    Refused,
-    Packet(Heading),
-}
-
 // The vectors are 0 above n, and all 0 on a refusal.
 #[derive(Clone, Copy)]
 pub struct Reading {
-    pub answer: ReadAnswer,
+    pub answer: Result<Heading, Refusal>,
     pub past: [u16; 16],
     pub barrier: [u16; 16],
 }
 
-fn refuse() -> Reading
-    ensures { result ≡ refused }
-{
-    Reading {
-        answer: ReadAnswer::Refused,
-        past: [0; 16],
-        barrier: [0; 16],
+impl Header {
+    // Whether n is 1 to 16, and the sender 1 to n.
+    pub fn is_in_range(self) -> bool
+        ensures { result ≡ in_range self }
+    {
+        let n = self.n;
+        let sender = self.sender.0;
+        (1 <= n) & (n <= 16) & (1 <= sender) & (sender <= n)
     }
+}
+
+// What a well formed packet says, or the first point that it breaks.
+pub fn read_message(packet: &[u8]) -> Result<Message, Point>
+    ensures point { failed result ≡ first_bad_point packet.now }
+    ensures heading { IfOk result (λ message. message.heading ≡ headed (kind_of packet.now) (header_of packet.now)) }
+    ensures past { IfOk result (λ message. message.past ≡ past_of packet.now) }
+    ensures barrier { IfOk result (λ message. message.barrier ≡ barrier_of packet.now) }
+{
+    let heading = read_heading(packet)?;
+    let seats = heading.n as usize;
+    let past = fields(packet, HEAD_LEN, seats);
+    let barrier = fields(packet, HEAD_LEN + 2 * seats, seats);
+    let message = Message {
+        heading,
+        past,
+        barrier,
+    };
+    message.check()?;
+    Ok(message)
 }
 
 // What the packet says, or a refusal where it is not well formed.
 pub fn read(packet: &[u8]) -> Reading
     ensures { result ≡ read_of packet.now }
 {
-    if head_point(packet) != 0 {
-        return refuse();
-    }
-    let first = packet[0];
-    let second = packet[1];
-    let n = first % 16 + 1;
-    let sender = SeatNo(second / 16 + 1);
-    let kind = kind_of(second);
-    let seats = n as usize;
-    let past = fields(packet, HEAD_LEN, seats);
-    let barrier = fields(packet, HEAD_LEN + 2 * seats, seats);
-    if vectors_point(kind, sender, past, barrier) != 0 {
-        return refuse();
-    }
-    let heading = Heading { n, sender, kind };
-    Reading {
-        answer: ReadAnswer::Packet(heading),
-        past,
-        barrier,
+    match read_message(packet) {
+        Ok(message) => {
+            let past = message.past;
+            let barrier = message.barrier;
+            Reading {
+                answer: Ok(message.heading),
+                past,
+                barrier,
+            }
+        }
+        Err(point) => Reading {
+            answer: Err(point.into()),
+            past: [0; 16],
+            barrier: [0; 16],
+        },
     }
 }
 
@@ -95,15 +109,12 @@ pub fn read(packet: &[u8]) -> Reading
 pub fn body(packet: &[u8]) -> &[u8]
     ensures { result.now ≡ body_of packet.now }
 {
-    let reading = read(packet);
-    let answer = reading.answer;
-    match answer {
-        ReadAnswer::Refused => &packet[..0],
-        ReadAnswer::Packet(heading) => {
-            let seats = heading.n as usize;
-            let at = HEAD_LEN + 4 * seats;
+    match read_message(packet) {
+        Ok(message) => {
+            let at = HEAD_LEN + 4 * message.heading.n as usize;
             &packet[at..]
         }
+        Err(_) => &packet[..0],
     }
 }
 
@@ -122,22 +133,17 @@ pub fn write(
     if BODY_MOST < body.len() {
         return Answer::Refused(Refusal::BodyTooLong);
     }
-    if !can_write(kind, header, past, barrier) {
+    let Some(message) = Message::to_write(kind, header, past, barrier) else {
         return Answer::Refused(Refusal::NotWellFormed);
-    }
-    let seats = header.n as usize;
-    let length = HEAD_LEN + 4 * seats + body.len();
+    };
+    let length = HEAD_LEN + 4 * header.n as usize + body.len();
     if out.len() < length {
         return Answer::Refused(Refusal::OutputTooShort);
     }
-    put_packet(kind, header, past, barrier, body, out);
-    let sender = header.sender;
-    let at = (sender.0 - 1) as usize;
-    let number = EditNo(past[at]);
-    let length = length as u16;
+    message.put(body, out);
     Answer::Done(Edit {
-        sender,
-        number,
-        length,
+        sender: header.sender,
+        number: message.number(),
+        length: length as u16,
     })
 }

@@ -1,44 +1,70 @@
-// The eight points of well-formedness (document 01, "Packet"), and whether a message can be written.
-ghost use Rattle.std.specs.Prelude.{◌≡◌, ◌≤◌, ◌<◌, ◌-◌};
-ghost use Rattle.vectors.specs.Vectors.{entry};
-ghost use Rattle.packet.specs.Packet.{kind_bit, head_point, vectors_point, less_one, point_seven};
-ghost use Rattle.packet.specs.Writing.{in_range, writable};
+// The eight points of well-formedness (document 01, "Packet"), and the first six of them.
+ghost use Rattle.std.specs.Prelude.{◌≡◌, IfOk};
+ghost use Rattle.packet.specs.Packet.{kind_bit, kind_of, head_point};
+ghost use Rattle.packet.specs.Points.{failed};
+ghost use Rattle.answers.specs.declared.Refusal.TheVariants.{NotWellFormed};
+ghost use Rattle.packet.specs.Reading.{headed, header_of};
 
-use super::{BODY_MOST, HEAD_LEN, Header, Kind};
-use answers::SeatNo;
-use vectors::{is_same, is_within, is_zero_above};
+use super::{BODY_MOST, HEAD_LEN, Heading, Kind};
+use answers::{Refusal, SeatNo};
 
-// Points 1 to 6: the first that fails, or 0.
-pub fn head_point(packet: &[u8]) -> u8
-    ensures { result ≡ head_point packet.now }
+// A point that a packet breaks, with its number.
+#[derive(Clone, Copy)]
+pub enum Point {
+    Bytes = 1,
+    Version = 2,
+    ZeroBits = 3,
+    Sender = 4,
+    BodyLength = 5,
+    TotalLength = 6,
+    BarrierWithinPast = 7,
+    CausalBarrier = 8,
+}
+
+impl From<Point> for Refusal {
+    ghost from_gives = { λ _ refusal. refusal ≡ NotWellFormed };
+
+    fn from(_point: Point) -> Refusal {
+        Refusal::NotWellFormed
+    }
+}
+
+// Points 1 to 6, and what the first bytes of a packet say that keeps them.
+pub(crate) fn read_heading(packet: &[u8]) -> Result<Heading, Point>
+    ensures point { failed result ≡ head_point packet.now }
+    ensures heading { IfOk result (λ heading. heading ≡ headed (kind_of packet.now) (header_of packet.now)) }
 {
     if packet.len() < HEAD_LEN {
-        return 1;
+        return Err(Point::Bytes);
     }
     let first = packet[0];
     let second = packet[1];
     let third = packet[2];
     if first / 16 != 1 {
-        return 2;
+        return Err(Point::Version);
     }
     if second % 8 != 0 {
-        return 3;
+        return Err(Point::ZeroBits);
     }
     if first % 16 < second / 16 {
-        return 4;
+        return Err(Point::Sender);
     }
     let body = third as usize;
     if BODY_MOST < body {
-        return 5;
+        return Err(Point::BodyLength);
     }
     let seats = (first % 16) as usize + 1;
     if packet.len() != HEAD_LEN + 4 * seats + body {
-        return 6;
+        return Err(Point::TotalLength);
     }
-    0
+    Ok(Heading {
+        n: first % 16 + 1,
+        sender: SeatNo(second / 16 + 1),
+        kind: kind_of(second),
+    })
 }
 
-pub fn kind_of(second: u8) -> Kind
+fn kind_of(second: u8) -> Kind
     ensures { result ≡ kind_bit second }
 {
     if second / 8 % 2 == 1 {
@@ -46,64 +72,4 @@ pub fn kind_of(second: u8) -> Kind
     } else {
         Kind::Ordinary
     }
-}
-
-// The vector with the sender's entry, which is not 0, one lower.
-fn less_one(v: [u16; 16], sender: SeatNo) -> [u16; 16]
-    requires { (1 ≤ sender.0) × (sender.0 ≤ 16) × (0 < entry v sender) }
-    ensures { result ≡ less_one v sender }
-{
-    let at = (sender.0 - 1) as usize;
-    let mut lower = v;
-    lower[at] = v[at] - 1;
-    lower
-}
-
-fn is_ordered(sender: SeatNo, past: [u16; 16], barrier: [u16; 16]) -> bool
-    requires { (1 ≤ sender.0) × (sender.0 ≤ 16) }
-    ensures { result ≡ point_seven sender past barrier }
-{
-    let at = (sender.0 - 1) as usize;
-    is_within(barrier, past) & (barrier[at] < past[at])
-}
-
-// Points 7 and 8: the first that fails, or 0.
-pub fn vectors_point(kind: Kind, sender: SeatNo, past: [u16; 16], barrier: [u16; 16]) -> u8
-    requires { (1 ≤ sender.0) × (sender.0 ≤ 16) }
-    ensures { result ≡ vectors_point kind sender past barrier }
-{
-    if !is_ordered(sender, past, barrier) {
-        return 7;
-    }
-    match kind {
-        Kind::Ordinary => 0,
-        Kind::Causal => {
-            let due = less_one(past, sender);
-            if is_same(barrier, due) { 0 } else { 8 }
-        }
-    }
-}
-
-// Whether n is 1 to 16, and the sender 1 to n.
-pub fn in_range(header: Header) -> bool
-    ensures { result ≡ in_range header }
-{
-    let n = header.n;
-    let sender = header.sender.0;
-    (1 <= n) & (n <= 16) & (1 <= sender) & (sender <= n)
-}
-
-// Whether the message can be written: refusal 14 where not.
-pub fn can_write(kind: Kind, header: Header, past: [u16; 16], barrier: [u16; 16]) -> bool
-    ensures { result ≡ writable kind header past barrier }
-{
-    if !in_range(header) {
-        return false;
-    }
-    let sender = header.sender;
-    if vectors_point(kind, sender, past, barrier) != 0 {
-        return false;
-    }
-    let seats = header.n as usize;
-    is_zero_above(seats, past) & is_zero_above(seats, barrier)
 }

@@ -2,8 +2,8 @@
 // 201 bytes, an empty packet, and P4's packet broken at each of the eight points.
 #![tactic(auto)]
 
-use answers::{Answer, Refusal, SeatNo};
-use packet::{Header, Heading, Kind, ReadAnswer};
+use answers::{Answer, SeatNo};
+use packet::{Header, Heading, Kind};
 use std::io;
 
 fn print(rt: &impl Print, text: &[u8]) -> io::Result<()> {
@@ -70,22 +70,25 @@ fn print_heading(rt: &impl Print, heading: Heading, body: usize) -> io::Result<(
 fn show(rt: &impl Print, name: &[u8], bytes: &[u8]) -> io::Result<()> {
     print(rt, name)?;
     let reading = packet::read(bytes);
-    let answer = reading.answer;
-    let past = reading.past;
-    let barrier = reading.barrier;
-    match answer {
-        ReadAnswer::Refused => {
-            print_number(rt, b"refused ", Refusal::NotWellFormed.number() as u64)?;
+    match reading.answer {
+        Err(refusal) => {
+            print_number(rt, b"refused ", refusal.number() as u64)?;
             print_number(rt, b", body of ", packet::body(bytes).len() as u64)?;
             print(rt, b"\n")
         }
-        ReadAnswer::Packet(heading) => {
+        Ok(heading) => {
             print_heading(rt, heading, packet::body(bytes).len())?;
             let n = heading.n as usize;
-            print_vector(rt, b", past", past, n)?;
-            print_vector(rt, b", barrier", barrier, n)?;
+            print_vector(rt, b", past", reading.past, n)?;
+            print_vector(rt, b", barrier", reading.barrier, n)?;
             print(rt, b"\n")?;
-            again(rt, heading, past, barrier, packet::body(bytes))
+            again(
+                rt,
+                heading,
+                reading.past,
+                reading.barrier,
+                packet::body(bytes),
+            )
         }
     }
 }

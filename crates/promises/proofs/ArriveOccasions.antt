@@ -29,14 +29,10 @@ module _ (seat : Seat) (shelf packet : List ℕ) where
   -- ---- from the occasion to the answer
 
   gives_10 : (Sound seat shelf → ⊥) → answer ≡ Refused NotSound
-  gives_10 bad =
-      sym
-      (refused_10 seat packet shelf (record { seat = seat; answer = Refused NotSound }) (fails _ (sound_agrees seat shelf) bad) refl refl).answered
+  gives_10 bad = sym (refused_10 seat packet shelf (fails _ (sound_agrees seat shelf) bad)).answered
 
   gives_14 : Sound seat shelf → (WellFormed packet → ⊥) → answer ≡ Refused NotWellFormed
-  gives_14 sound bad =
-      sym
-      (refused_14 seat packet shelf (record { seat = seat; answer = Refused NotWellFormed }) ((sound_agrees seat shelf).0 sound) (λ z. bad ((formed_agrees packet).1 z)) refl refl).answered
+  gives_14 sound bad = sym (refused_14 seat packet shelf ((sound_agrees seat shelf).0 sound) (λ z. bad ((formed_agrees packet).1 z))).answered
 
   -- what an admitted arrival is answered
   abbrev settled : Answer

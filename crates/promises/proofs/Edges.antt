@@ -87,8 +87,7 @@ badly_formed : (packet : List ℕ) → (first_bad_point packet ≡ 0 → ⊥)
     → (read_number (read_of packet).answer ≡ 14) × (arrival_number (fresh_seat 1 1) packet ≡ 14)
 badly_formed packet bad = (
   rw (read_refused packet bad),
-  sym
-      (ap answer_number (refused_14 (fresh_seat 1 1) packet [] (record { seat = fresh_seat 1 1; answer = Refused NotWellFormed }) fresh_both_sound bad refl refl).answered),
+  sym (ap answer_number (refused_14 (fresh_seat 1 1) packet [] fresh_both_sound bad).answered),
 )
 
 naming_201 : (packet : List ℕ) → body_length_of packet ≡ 201 → first_bad_point packet ≡ 0 → ⊥

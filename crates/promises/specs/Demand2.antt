@@ -1,7 +1,7 @@
 -- Demand 2: the two rules of document 000, section 3.2, on plain vectors and sets, line by line; and that the steps are
 -- these rules. `Held`, `Counts` and `Bytes` are what the types of arrays and slices say, and a step has no other premise:
 -- that state, shelf and packet are good follows from its answer.
-use Rattle.std.specs.Prelude.{ℕ, ◌+◌, ◌≤◌, max, ◌≡◌, ◌↔◌, ◌⊎◌, true, List, length, take}
+use Rattle.std.specs.Prelude.{Ok, ℕ, ◌+◌, ◌≤◌, max, ◌≡◌, ◌↔◌, ◌⊎◌, true, List, length, take}
 use Rattle.answers.specs.Answers.{seat_no, edit_no}
 use Rattle.answers.specs.declared.Edit.{Edit}
 use Rattle.answers.specs.declared.Answer.TheVariants.{Done}
@@ -15,7 +15,6 @@ use Rattle.packet.specs.declared.Kind.{Kind}
 use Rattle.packet.specs.declared.Kind.TheVariants.{Ordinary, Causal}
 use Rattle.packet.specs.declared.Header.{Header}
 use Rattle.packet.specs.declared.Heading.{Heading}
-use Rattle.packet.specs.declared.ReadAnswer.TheVariants.{Packet}
 use Rattle.shelf.specs.Shelf.{slot_of, laid, free_slot, lowest_free}
 use Rattle.seat.specs.State.{header_of, window_of, SoundState, Held}
 use Rattle.seat.specs.Stock.{packet_at}
@@ -89,7 +88,7 @@ controller_of seat =
 pub record SendDone (seat : Seat) (kind : Kind) (body out : List ℕ) (next : Seat) (after : List ℕ) : Type 0 where
   pub packet : List ℕ
   pub laid : after ≡ at_start packet out
-  pub says : (read_of packet).answer ≡ Packet (headed kind (header_of seat))
+  pub says : (read_of packet).answer ≡ Ok (headed kind (header_of seat))
   pub carries : body_of packet ≡ body
   pub rule : SendingRule seat.n seat.own.0 kind (controller_of seat) (vector_of (read_of packet).past) (vector_of (read_of packet).barrier) (controller_of next)
 
@@ -134,7 +133,7 @@ pub record Demand2 : Type 0 where
       → (read_of (take edit.length (write_output kind header past barrier body out)) ≡ message kind header past barrier)
       × (body_of (take edit.length (write_output kind header past barrier body out)) ≡ body)
   -- what is read and written again is the same bytes
-  pub read_writes_again : (packet out : List ℕ) (heading : Heading) → Bytes packet → length packet ≤ length out → (read_of packet).answer ≡ Packet heading
+  pub read_writes_again : (packet out : List ℕ) (heading : Heading) → Bytes packet → length packet ≤ length out → (read_of packet).answer ≡ Ok heading
       → (write_answer heading.kind (header_in heading) (read_of packet).past (read_of packet).barrier (body_of packet) out
       ≡ Done (record { sender = heading.sender; number = edit_no (entry (read_of packet).past heading.sender); length = length packet }))
       × (write_output heading.kind (header_in heading) (read_of packet).past (read_of packet).barrier (body_of packet) out ≡ at_start packet out)

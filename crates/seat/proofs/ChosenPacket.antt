@@ -8,11 +8,9 @@ use Rattle.vectors.specs.Vectors.{entry}
 use Rattle.vectors.proofs.Every.{and_both}
 use Rattle.window.proofs.Handed.{not_handed_is_above_run}
 use Rattle.packet.specs.Packet.{sender_of, body_at}
-use Rattle.packet.specs.Reading.{read_of, body_of}
+use Rattle.packet.specs.Reading.{body_of}
 use Rattle.packet.specs.declared.Heading.{Heading}
-use Rattle.packet.specs.declared.ReadAnswer.TheVariants.{Packet}
-use Rattle.packet.specs.declared.Reading.{Reading}
-use Rattle.packet.proofs.Told.{told, body_formed}
+use Rattle.packet.proofs.Told.{body_formed}
 use Rattle.shelf.specs.Shelf.{slots, is_free}
 use Rattle.seat.specs.State.{window_of, sound_state, SoundState}
 use Rattle.seat.specs.Stock.{number_of, packet_at, sound_shelf, Passing, SoundShelf}
@@ -42,13 +40,6 @@ module _ (seat : Seat) (shelf : List ℕ) (i : ℕ) (c : Chosen seat shelf i) wh
 
   pub chosen_passes : Passing seat (packet_at shelf i)
   chosen_passes = shelf_is_sound.passing i c.there is_used
-
--- a chosen packet that was read
-pub chosen_read : (seat : Seat) (shelf : List ℕ) (i : ℕ) (reading : Reading) (heading : Heading) → Chosen seat shelf i → reading ≡ read_of (packet_at shelf i)
-    → reading.answer ≡ Packet heading → ChosenRead seat shelf i heading reading.past reading.barrier
-chosen_read seat shelf i reading heading c is answered =
-    let t = told (packet_at shelf i) reading is heading answered in
-    record { chosen = c; is_well_formed = t.is_well_formed; heading_is = t.heading_is; past_is = t.past; barrier_is = t.barrier }
 
 module _ (seat : Seat) (shelf : List ℕ) (i : ℕ) (heading : Heading) (past barrier : List ℕ) (r : ChosenRead seat shelf i heading past barrier) where
   abbrev packet : List ℕ

@@ -10,7 +10,7 @@ use Rattle.answers.specs.Answers.{first_of}
 use Rattle.answers.specs.declared.Edit.{Edit}
 use Rattle.answers.specs.declared.Refusal.TheVariants.{NotSound, NotWellFormed}
 use Rattle.answers.specs.declared.Answer.{Answer}
-use Rattle.answers.specs.declared.Answer.TheVariants.{Opened, Done, Shelved, NothingReady, Refused}
+use Rattle.answers.specs.declared.Answer.TheVariants.{Done, Shelved, Refused}
 use Rattle.answers.specs.declared.Refusal.{Refusal}
 use Rattle.answers.proofs.InOrder.{NoRefusal, shelved_is_no_refusal, refuses, goes_on}
 use Rattle.vectors.specs.Vectors.{entry}
@@ -18,11 +18,9 @@ use Rattle.vectors.proofs.Every.{and_both}
 use Rattle.window.specs.Window.{handed, none_above}
 use Rattle.window.proofs.Handed.{not_handed_is_above_run}
 use Rattle.packet.specs.Packet.{sender_of, kind_of, past_of, barrier_of, first_bad_point}
-use Rattle.packet.specs.Reading.{header_of, message, read_of}
+use Rattle.packet.specs.Reading.{header_of, message}
 use Rattle.packet.specs.declared.Heading.{Heading}
-use Rattle.packet.specs.declared.ReadAnswer.TheVariants.{Packet}
-use Rattle.packet.specs.declared.Reading.{Reading}
-use Rattle.packet.proofs.Told.{Told, told, told_of}
+use Rattle.packet.proofs.Told.{Told, told_of}
 use Rattle.shelf.specs.Shelf.{slots, is_free, slot_of, laid, lowest_free}
 use Rattle.shelf.proofs.Lowest.{lowest_is_lowest}
 use Rattle.seat.specs.State.{window_of, sound_state, SoundState}
@@ -32,7 +30,6 @@ use Rattle.seat.specs.Arriving.{heading_of, sound_both, admission_refusals, repe
 use Rattle.seat.specs.Survey.{window_with}
 use Rattle.seat.specs.Steps.{LookedOver, Heard}
 use Rattle.seat.specs.declared.Seat.{Seat}
-use Rattle.seat.specs.declared.Stepped.{Stepped}
 use Rattle.seat.specs.declared.stock.Stock.{Stock}
 use Rattle.seat.proofs.Admitting.{admission_passed, shelved_tells}
 use Rattle.seat.proofs.Sound.{sound_says}
@@ -68,15 +65,14 @@ module _ (seat : Seat) (shelf : List ℕ) (stock : Stock) (packet : List ℕ) (h
       h.surveyed.marks_are h.sound_stock heading.sender (entry past heading.sender) heard_sizes.sender_low heard_sizes.sender_high
       ∙ rw (h.heading_is, h.past_is)
 
-  pub heard_answer : (answer : Answer) (repeated : Bool) (edit : Edit)
-      → edit ≡ carried heading past (length packet)
-      → repeated ≡ handed (window_with seat.run stock.marks heading.sender) edit.number.0
-      → answer ≡ first_of (admission_refusals seat heading past repeated) (admitted_answer seat shelf heading past barrier edit)
+  pub heard_answer : (answer : Answer)
+      → answer
+      ≡ first_of (admission_refusals seat heading past (handed (window_with seat.run stock.marks heading.sender) (entry past heading.sender)))
+      (admitted_answer seat shelf heading past barrier (carried heading past (length packet)))
       → answer ≡ arrive_answer seat shelf packet
-  heard_answer answer repeated edit e r a =
-      let same : edit ≡ edit_handed packet = e ∙ carried_is packet heading h.is_well_formed h.heading_is past h.past_is in
-      let again : repeated ≡ repeats seat shelf packet = r ∙ ap (λ (x : Edit). handed (window_with seat.run stock.marks heading.sender) x.number.0) e ∙ repeats_is in
-      a ∙ (λ i. first_of (admission_refusals seat (h.heading_is i) (h.past_is i) (again i)) (admitted_answer seat shelf (h.heading_is i) (h.past_is i) (h.barrier_is i) (same i)))
+  heard_answer answer a =
+      let same : carried heading past (length packet) ≡ edit_handed packet = carried_is packet heading h.is_well_formed h.heading_is past h.past_is in
+      a ∙ (λ i. first_of (admission_refusals seat (h.heading_is i) (h.past_is i) (repeats_is i)) (admitted_answer seat shelf (h.heading_is i) (h.past_is i) (h.barrier_is i) (same i)))
       ∙ sym (heard_goes_on seat shelf packet h.sound h.is_well_formed)
 
   pub heard_none_above : entry seat.past heading.sender ≤ 65535 → none_above 65535 (window_of seat heading.sender) ≡ true
@@ -118,40 +114,28 @@ module _ (seat : Seat) (packet shelf : List ℕ) (answer : Answer) (a : answer �
   pub arrived_refused : (refusal : Refusal) → answer ≡ Refused refusal → Arrived seat packet shelf (record { seat = seat; answer = answer }) shelf
   arrived_refused refusal e = let is = sym a ∙ e in record { answered = a; next = rw is; shelf_after_is = rw is }
 
-  -- the answers that an arrival never gives leave everything as well
-  pub arrived_opened : answer ≡ Opened → Arrived seat packet shelf (record { seat = seat; answer = answer }) shelf
-  arrived_opened e = let is = sym a ∙ e in record { answered = a; next = rw is; shelf_after_is = rw is }
-
-  pub arrived_idle : answer ≡ NothingReady → Arrived seat packet shelf (record { seat = seat; answer = answer }) shelf
-  arrived_idle e = let is = sym a ∙ e in record { answered = a; next = rw is; shelf_after_is = rw is }
-
 -- ---- the two refusals before a packet is heard
 
-module _ (seat : Seat) (packet shelf : List ℕ) (stepped : Stepped) where
-  refused_whole : (refusal : Refusal) → arrive_answer seat shelf packet ≡ Refused refusal → stepped.seat ≡ seat → stepped.answer ≡ Refused refusal
-      → Arrived seat packet shelf stepped shelf
-  refused_whole refusal e s a = record { answered = a ∙ sym e; next = rw e s; shelf_after_is = rw e }
-
-  pub refused_10 : sound_both seat shelf ≡ false → stepped.seat ≡ seat → stepped.answer ≡ Refused NotSound → Arrived seat packet shelf stepped shelf
+module _ (seat : Seat) (packet shelf : List ℕ) where
+  pub refused_10 : sound_both seat shelf ≡ false → Arrived seat packet shelf (record { seat = seat; answer = Refused NotSound }) shelf
   unfolding arrive_answer arrive_refusals
-  refused_10 bad = refused_whole NotSound (refuses NotSound _ _ _ (ap not bad))
+  refused_10 bad = arrived_refused seat packet shelf _ (sym (refuses NotSound _ _ _ (ap not bad))) NotSound refl
 
-  pub refused_14 : sound_both seat shelf ≡ true → (first_bad_point packet ≡ 0 → ⊥) → stepped.seat ≡ seat → stepped.answer ≡ Refused NotWellFormed
-      → Arrived seat packet shelf stepped shelf
+  pub refused_14 : sound_both seat shelf ≡ true → (first_bad_point packet ≡ 0 → ⊥) → Arrived seat packet shelf (record { seat = seat; answer = Refused NotWellFormed }) shelf
   unfolding arrive_answer arrive_refusals
-  refused_14 sound bad = refused_whole NotWellFormed (goes_on NotSound _ _ _ (ap not sound) ∙ refuses NotWellFormed _ _ _ (ap not (ne_eqb _ _ bad)))
+  refused_14 sound bad =
+      arrived_refused seat packet shelf _ (sym (goes_on NotSound _ _ _ (ap not sound) ∙ refuses NotWellFormed _ _ _ (ap not (ne_eqb _ _ bad)))) NotWellFormed refl
 
 -- a packet that was read beside a sound stock is heard
-pub heard : (seat : Seat) (shelf : List ℕ) (stock : Stock) (packet : List ℕ) (reading : Reading) (heading : Heading) → LookedOver false seat shelf stock → stock.sound ≡ true
-    → reading ≡ read_of packet → reading.answer ≡ Packet heading → Heard seat shelf stock packet heading reading.past reading.barrier
-heard seat shelf stock packet reading heading looked sound is answered =
-    let t = told packet reading is heading answered in
+pub heard : (seat : Seat) (shelf : List ℕ) (stock : Stock) (packet : List ℕ) (heading : Heading) (past barrier : List ℕ) → LookedOver false seat shelf stock → stock.sound ≡ true
+    → first_bad_point packet ≡ 0 → heading ≡ heading_of packet → past ≡ past_of packet → barrier ≡ barrier_of packet → Heard seat shelf stock packet heading past barrier
+heard seat shelf stock packet heading past barrier looked sound well h p b =
     record {
       sound = sym looked.sound_is ∙ sound;
       surveyed = looked.surveyed sound;
       sound_stock = sound;
-      is_well_formed = t.is_well_formed;
-      heading_is = t.heading_is;
-      past_is = t.past;
-      barrier_is = t.barrier;
+      is_well_formed = well;
+      heading_is = h;
+      past_is = p;
+      barrier_is = b;
     }

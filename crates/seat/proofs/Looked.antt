@@ -12,8 +12,8 @@ use Rattle.window.specs.Window.{handed}
 use Rattle.packet.specs.Packet.{sender_of}
 use Rattle.packet.specs.Reading.{read_of}
 use Rattle.packet.specs.declared.Heading.{Heading}
-use Rattle.packet.specs.declared.ReadAnswer.{ReadAnswer}
-use Rattle.packet.specs.declared.ReadAnswer.TheVariants.{Refused, Packet}
+use Rattle.std.specs.Prelude.{Result, Ok, Err}
+use Rattle.answers.specs.declared.Refusal.{Refusal}
 use Rattle.packet.specs.declared.Reading.{Reading}
 use Rattle.packet.proofs.Told.{Told, told}
 use Rattle.shelf.specs.Shelf.{slots, is_free}
@@ -75,10 +75,10 @@ module _ (choosing : Bool) (seat : Seat) (shelf : List ℕ) where
       unfolding passes
       sound_so_far = rw is (used_slot_is_sound i shelf seat used ∙ rw (sym so.sound_is ∙ sound))
 
-      pub refused_is_bad : reading.answer ≡ Refused → sound_slots (i + 1) seat shelf ≡ false
-      refused_is_bad refused = sound_so_far ∙ rw refused
+      pub refused_is_bad : (refusal : Refusal) → reading.answer ≡ Err refusal → sound_slots (i + 1) seat shelf ≡ false
+      refused_is_bad refusal refused = sound_so_far ∙ rw refused
 
-      module _ (heading : Heading) (answered : reading.answer ≡ Packet heading) where
+      module _ (heading : Heading) (answered : reading.answer ≡ Ok heading) where
         facts : Told (packet_at shelf i) reading heading
         facts = told (packet_at shelf i) reading is heading answered
 
@@ -94,7 +94,7 @@ module _ (choosing : Bool) (seat : Seat) (shelf : List ℕ) where
             let before : on_slots i shelf (sender_of packet) (number_of packet) ≡ on_slots i shelf heading.sender number =
             ap₂ (λ (sender : SeatNo) (past : List ℕ). on_slots i shelf sender (entry past sender)) (sym t.sender) (sym t.past) in
             sound_so_far
-            ∙ ap₂ (λ (answer : ReadAnswer) (repeated : Bool). passes_as seat reading.past answer && not repeated) answered before
+            ∙ ap₂ (λ (answer : Result Heading Refusal) (repeated : Bool). passes_as seat reading.past answer && not repeated) answered before
             ∙ sym
             (rw marks
             (beside (other_session seat heading) (above_own_count seat reading.past) (is_handed seat heading.sender number) (on_slots i shelf heading.sender number)

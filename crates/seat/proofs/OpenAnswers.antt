@@ -1,6 +1,6 @@
 -- What opening answers: the exact occasion of each answer, and the contract at each way out.
 use Prim.Native.Nat.{ℕ}
-use mathlib.Core.Path.{◌≡◌, refl, sym, subst, ◌∙◌}
+use mathlib.Core.Path.{◌≡◌, refl, sym, subst}
 use mathlib.Core.Bool.{Bool, true, false, not}
 use mathlib.Core.List.{List, [], ◌∷◌}
 use lib.ListN.{length, replicate}
@@ -15,7 +15,6 @@ use Rattle.shelf.specs.Shelf.{whole_slots}
 use Rattle.seat.specs.State.{counting, no_seat}
 use Rattle.seat.specs.Opening.{open_refusals, open_answer, OpenedAs}
 use Rattle.seat.specs.declared.Seat.{Seat}
-use Rattle.seat.specs.declared.Stepped.{Stepped}
 
 -- The occasion of each answer. Opening gives no others.
 pub data OpenOccasion (n : ℕ) (own : SeatNo) (shelf : List ℕ) : Answer → Type 0 where
@@ -53,9 +52,8 @@ module _ (n : ℕ) (own : SeatNo) (shelf : List ℕ) where
 
   -- ---- the contract at each way out
 
-  pub refused_open : (refusal : Refusal) (seat : Seat) (stepped : Stepped) → open_answer n own shelf ≡ Refused refusal → seat ≡ no_seat
-      → (stepped.seat ≡ seat) × (stepped.answer ≡ Refused refusal) → OpenedAs n own shelf stepped shelf
-  refused_open refusal seat stepped e none is = record { answered = is.1 ∙ sym e; next = rw e (is.0 ∙ none); shelf_after_is = rw e }
+  pub refused_open : (refusal : Refusal) → open_answer n own shelf ≡ Refused refusal → OpenedAs n own shelf (record { seat = no_seat; answer = Refused refusal }) shelf
+  refused_open refusal e = record { answered = sym e; next = rw e; shelf_after_is = rw e }
 
   pub done_open : (seat : Seat) (after : List ℕ) → open_answer n own shelf ≡ Opened → seat ≡ counting n own → after ≡ replicate (length shelf) 0
       → OpenedAs n own shelf (record { seat = seat; answer = Opened }) after

@@ -24,7 +24,6 @@ use Rattle.seat.specs.Arriving.{heading_of, sound_both, edit_handed}
 use Rattle.seat.specs.Releasing.{chosen, take_refusals, release_answer, Released}
 use Rattle.seat.specs.Steps.{Chosen}
 use Rattle.seat.specs.declared.Seat.{Seat}
-use Rattle.seat.specs.declared.Stepped.{Stepped}
 
 module _ (seat : Seat) (shelf out : List ℕ) where
   pub not_sound_answers_10 : sound_both seat shelf ≡ false → release_answer seat shelf out ≡ Refused NotSound
@@ -71,9 +70,8 @@ module _ (seat : Seat) (shelf out : List ℕ) where
           output = rw (e, ← c.chosen_is) o;
         }
 
-  pub refused_release : (stepped : Stepped) (refusal : Refusal) → release_answer seat shelf out ≡ Refused refusal → stepped.seat ≡ seat → stepped.answer ≡ Refused refusal
-      → Released seat shelf out stepped shelf out
-  refused_release stepped refusal e s a = record { answered = a ∙ sym e; next = rw e s; shelf_after_is = rw e; output = rw e }
+  pub refused_release : (refusal : Refusal) → release_answer seat shelf out ≡ Refused refusal → Released seat shelf out (record { seat = seat; answer = Refused refusal }) shelf out
+  refused_release refusal e = record { answered = sym e; next = rw e; shelf_after_is = rw e; output = rw e }
 
   pub idle_release : release_answer seat shelf out ≡ NothingReady → Released seat shelf out (record { seat = seat; answer = NothingReady }) shelf out
   idle_release e = record { answered = sym e; next = rw e; shelf_after_is = rw e; output = rw e }

@@ -1,6 +1,6 @@
 -- What sending answers: the exact occasion of each answer, and the contract at each way out.
 use Prim.Native.Nat.{ℕ, ◌≤◌, ◌<◌}
-use mathlib.Core.Path.{◌≡◌, refl, sym, subst, ◌∙◌}
+use mathlib.Core.Path.{◌≡◌, refl, sym, subst}
 use mathlib.Core.Bool.{Bool, true, false, not}
 use mathlib.Core.List.{List, [], ◌∷◌}
 use lib.Dec.{ltb, eqb}
@@ -18,7 +18,6 @@ use Rattle.seat.specs.State.{header_of, own_count, sound_state}
 use Rattle.seat.specs.Sending.{kind_of, past_sent, packet_sent, sent_seat, send_refusals, send_answer, Sent}
 use Rattle.seat.specs.declared.Seat.{Seat}
 use Rattle.seat.specs.declared.Wish.{Wish}
-use Rattle.seat.specs.declared.Stepped.{Stepped}
 
 -- A send that is done.
 pub record SendDone (seat : Seat) (body out : List ℕ) (edit : Edit) : Type 0 where
@@ -113,9 +112,9 @@ module _ (seat : Seat) (body out : List ℕ) where
 
   -- ---- the contract at each way out
 
-  pub refused_send : (wish : Wish) (refusal : Refusal) (stepped : Stepped) → send_answer seat body out ≡ Refused refusal
-      → (stepped.seat ≡ seat) × (stepped.answer ≡ Refused refusal) → Sent seat wish body out stepped out
-  refused_send wish refusal stepped e is = record { answered = is.1 ∙ sym e; next = rw e is.0; output = rw e }
+  pub refused_send : (wish : Wish) (refusal : Refusal) → send_answer seat body out ≡ Refused refusal
+      → Sent seat wish body out (record { seat = seat; answer = Refused refusal }) out
+  refused_send wish refusal e = record { answered = sym e; next = rw e; output = rw e }
 
   pub done_send : (wish : Wish) (next : Seat) (edit : Edit) (after : List ℕ) → send_answer seat body out ≡ Done edit → next ≡ sent_seat seat (kind_of wish)
       → after ≡ at_start (packet_sent seat (kind_of wish) body) out → Sent seat wish body out (record { seat = next; answer = Done edit }) after

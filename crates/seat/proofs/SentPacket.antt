@@ -10,11 +10,11 @@ use Rattle.answers.specs.Answers.{edit_no}
 use Rattle.vectors.specs.Vectors.{entry, Counts}
 use Rattle.vectors.proofs.Tests.{zero_above_of}
 use Rattle.packet.specs.Packet.{packet_length, less_one}
-use Rattle.packet.specs.Reading.{message, read_of, body_of}
+use Rattle.packet.specs.Reading.{headed, header_in, message, read_of, body_of}
 use Rattle.packet.specs.Writing.{packet_of, writable, edit_of, at_start}
 use Rattle.packet.specs.declared.Kind.{Kind}
 use Rattle.packet.specs.declared.Kind.TheVariants.{Ordinary, Causal}
-use Rattle.packet.specs.declared.Header.{Header}
+use Rattle.packet.specs.declared.Heading.{Heading}
 use Rattle.packet.proofs.Formed.{Ordered, vectors_pass}
 use Rattle.packet.proofs.Laid.{at_start_lem}
 use Rattle.packet.proofs.RoundTrip.{packet_reads_back, packet_body_back}
@@ -89,15 +89,16 @@ module _ (seat : Seat) (sound : sound_state seat ≡ true) (held : Held seat) wh
   module _ (not_full : own_count seat < 65535) where
     -- ---- it stands at the output's start
 
-    pub sent_packet_is_put : (kind wished : Kind) (header : Header) (past barrier body out after : List ℕ) → kind ≡ wished → header ≡ header_of seat → past ≡ past_sent seat
-        → barrier ≡ barrier_sent seat kind → after ≡ sets out 0 (packet_of kind header past barrier body) → packet_length seat.n (length body) ≤ length out
-        → after ≡ at_start (packet_sent seat wished body) out
-    sent_packet_is_put kind wished header past barrier body out after is-kind is-header is-past is-barrier is-after room =
+    pub sent_packet_is_put : (kind : Kind) (heading : Heading) (past barrier body out after : List ℕ) → heading ≡ headed kind (header_of seat) → past ≡ past_sent seat
+        → barrier ≡ barrier_sent seat kind → after ≡ sets out 0 (packet_of heading.kind (header_in heading) past barrier body) → packet_length seat.n (length body) ≤ length out
+        → after ≡ at_start (packet_sent seat kind body) out
+    sent_packet_is_put kind heading past barrier body out after is_heading is_past is_barrier is_after room =
         let s = was in
         let past_long = (past_sent_is_counts seat sound held not_full).long in
-        let barrier_long = (barrier_sent_is_counts wished).long in
-        rw (is-after, is-barrier, is-header, is-past, is-kind)
-        (at_start_lem wished (header_of seat) (past_sent seat) (barrier_sent seat wished) body (omega arith) (omega arith) out room)
+        let barrier_long = (barrier_sent_is_counts kind).long in
+        is_after
+        ∙ (λ i. sets out 0 (packet_of (is_heading i).kind (header_in (is_heading i)) (is_past i) (is_barrier i) body))
+        ∙ at_start_lem kind (header_of seat) (past_sent seat) (barrier_sent seat kind) body (omega arith) (omega arith) out room
 
     -- ---- it reads back
 

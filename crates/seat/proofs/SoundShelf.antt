@@ -12,7 +12,7 @@ use Rattle.vectors.proofs.Every.{and_both, all_at, all_of}
 use Rattle.packet.specs.Packet.{seats_of, sender_of, kind_of, past_of, first_bad_point}
 use Rattle.packet.specs.Reading.{headed, header_of, read_of}
 use Rattle.packet.specs.declared.Heading.{Heading}
-use Rattle.packet.specs.declared.ReadAnswer.TheVariants.{Packet}
+use Rattle.std.specs.Prelude.{Ok}
 use Rattle.packet.proofs.Told.{read_formed, read_refused}
 use Rattle.shelf.specs.Shelf.{slots, whole_slots, slot_at, is_free}
 use Rattle.shelf.proofs.Slots.{length_slot_at}
@@ -31,11 +31,11 @@ module _ (seat : Seat) (packet : List ℕ) where
   abbrev heading : Heading
   heading = headed (kind_of packet) (header_of packet)
 
-  read_passes : first_bad_point packet ≡ 0 → passes seat (read_of packet) ≡ passes_as seat (past_of packet) (Packet heading)
+  read_passes : first_bad_point packet ≡ 0 → passes seat (read_of packet) ≡ passes_as seat (past_of packet) (Ok heading)
   unfolding passes
   read_passes is_well_formed = rw (read_formed packet is_well_formed)
 
-  passing_facts : first_bad_point packet ≡ 0 → passes_as seat (past_of packet) (Packet heading) ≡ true → Passing seat packet
+  passing_facts : first_bad_point packet ≡ 0 → passes_as seat (past_of packet) (Ok heading) ≡ true → Passing seat packet
   passing_facts is_well_formed passed =
       let session = other_session seat heading in
       let above = above_own_count seat (past_of packet) in

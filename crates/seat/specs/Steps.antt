@@ -1,13 +1,19 @@
 -- What the steps' private functions know when they are called.
-use Rattle.std.specs.Prelude.{ℕ, ◌<◌, ◌≡◌, Bool, true, false, List}
+use Rattle.std.specs.Prelude.{ℕ, ◌<◌, ◌≡◌, Bool, true, false, List, Result, Ok, Err, ⊤}
+use Rattle.answers.specs.declared.Edit.{Edit}
+use Rattle.answers.specs.declared.Refusal.{Refusal}
+use Rattle.answers.specs.declared.Answer.{Answer}
+use Rattle.answers.specs.declared.Answer.TheVariants.{Done, Shelved, Refused}
 use Rattle.packet.specs.Packet.{past_of, barrier_of, first_bad_point}
 use Rattle.packet.specs.declared.Heading.{Heading}
-use Rattle.shelf.specs.Shelf.{slots}
+use Rattle.shelf.specs.Shelf.{slots, lowest_free}
 use Rattle.seat.specs.Stock.{packet_at}
 use Rattle.seat.specs.Arriving.{heading_of, sound_both}
 use Rattle.seat.specs.Releasing.{chosen}
 use Rattle.seat.specs.Survey.{Surveyed}
 use Rattle.seat.specs.declared.Seat.{Seat}
+use Rattle.seat.specs.declared.arrival.Place.{Place}
+use Rattle.seat.specs.declared.arrival.Place.TheVariants.{Seat as ToSeat, Slot}
 use Rattle.seat.specs.declared.stock.Stock.{Stock}
 
 -- A look over state and shelf tells whether both are sound, and what a sound shelf holds.
@@ -38,3 +44,14 @@ pub record ChosenRead (seat : Seat) (shelf : List ℕ) (i : ℕ) (heading : Head
   pub heading_is : heading ≡ heading_of (packet_at shelf i)
   pub past_is : past ≡ past_of (packet_at shelf i)
   pub barrier_is : barrier ≡ barrier_of (packet_at shelf i)
+
+-- What an arrival is answered whose packet goes to this place, or is refused.
+abbrev pub answer_of : Edit → Result Place Refusal → Answer
+answer_of edit (Ok ToSeat) = Done edit
+answer_of edit (Ok (Slot i)) = Shelved
+answer_of edit (Err refusal) = Refused refusal
+
+-- A packet that is shelved goes to the lowest free slot.
+abbrev pub GoesToLowest : List ℕ → Place → Type 0
+GoesToLowest shelf ToSeat = ⊤
+GoesToLowest shelf (Slot i) = (i < slots shelf) × (i ≡ lowest_free shelf)

@@ -1,13 +1,12 @@
 -- The packets on a shelf, and when a shelf is sound for a seat (document 01, "Numbers of a seat").
-use Rattle.std.specs.Prelude.{ℕ, ◌+◌, ◌-◌, ◌≤◌, ◌<◌, ◌≡◌, Bool, true, false, cond, not, ◌&&◌, ◌||◌, List, [], leb, ltb, eqb, length, get_or, take, drop}
+use Rattle.std.specs.Prelude.{ℕ, ◌+◌, ◌-◌, ◌≤◌, ◌<◌, ◌≡◌, Bool, true, false, cond, not, ◌&&◌, ◌||◌, List, [], Result, Ok, Err, leb, ltb, eqb, length, get_or, take, drop}
 use Rattle.answers.specs.declared.SeatNo.{SeatNo}
+use Rattle.answers.specs.declared.Refusal.{Refusal}
 use Rattle.vectors.specs.Vectors.{all, entry}
 use Rattle.window.specs.Window.{handed}
 use Rattle.packet.specs.Packet.{seats_of, sender_of, body_length_of, past_of, packet_length, first_bad_point}
 use Rattle.packet.specs.Reading.{read_of}
 use Rattle.packet.specs.declared.Heading.{Heading}
-use Rattle.packet.specs.declared.ReadAnswer.{ReadAnswer}
-use Rattle.packet.specs.declared.ReadAnswer.TheVariants.{Refused, Packet}
 use Rattle.packet.specs.declared.Reading.{Reading}
 use Rattle.shelf.specs.Shelf.{slot_size, slots, whole_slots, slot_at, is_free, slot_of, rest_zero}
 use Rattle.seat.specs.State.{own_count, window_of}
@@ -49,9 +48,9 @@ abbrev pub too_far_ahead : Seat → SeatNo → ℕ → Bool
 too_far_ahead seat sender number = ltb (entry seat.run sender + 64) number
 
 -- A packet that was read would pass refusals 14 to 18, the shelf not counted.
-abbrev pub passes_as : Seat → List ℕ → ReadAnswer → Bool
-passes_as seat past Refused = false
-passes_as seat past (Packet heading) =
+abbrev pub passes_as : Seat → List ℕ → Result Heading Refusal → Bool
+passes_as seat past (Err refusal) = false
+passes_as seat past (Ok heading) =
     not (other_session seat heading)
     && not (above_own_count seat past)
     && not (is_handed seat heading.sender (entry past heading.sender))

@@ -1,120 +1,105 @@
-// The answer to a packet that arrives, and to one that is released, once state and shelf are found sound.
-ghost use Rattle.std.specs.Prelude.{◌≡◌, ◌+◌, ◌*◌, ◌-◌, ◌≤◌, length};
+// A packet that arrives, once state and shelf are found sound.
+ghost use Rattle.std.specs.Prelude.{◌≡◌, ◌-◌, ◌≤◌, IfOk};
 ghost use Rattle.answers.specs.Answers.{edit_no, first_of};
+ghost use Rattle.answers.specs.declared.Edit.{Edit};
 ghost use Rattle.vectors.specs.Vectors.{entry};
+ghost use Rattle.window.specs.Window.{handed};
 ghost use Rattle.packet.specs.Packet.{body_at};
 ghost use Rattle.seat.specs.Arriving.{admission_refusals, admitted_answer, Arrived};
-ghost use Rattle.seat.specs.Steps.{Heard};
+ghost use Rattle.seat.specs.Survey.{window_with};
+ghost use Rattle.seat.specs.Steps.{Heard, answer_of, GoesToLowest};
 
 use super::state::{hand_over, is_barrier_above_past, is_ready};
 use super::stock::{Stock, is_above_own_count, is_too_far_ahead, window_with};
-use super::{Seat, Stepped};
-use answers::{Answer, Edit, EditNo, Refusal};
-use packet::{HEAD_LEN, Heading};
-use shelf::SLOT_SIZE;
+use super::{Seat, Stepped, refuse};
+use answers::{Answer, Edit, Refusal};
+use packet::{HEAD_LEN, Message};
+
+// Where a packet goes that is not refused: it is handed over, or laid on a slot.
+#[derive(Clone, Copy)]
+pub enum Place {
+    Seat,
+    Slot(usize),
+}
 
 // The edit that a packet of some length carries, with its body's length.
-pub fn edit_in(heading: Heading, past: [u16; 16], packet: usize) -> Edit
-    requires { (1 ≤ heading.sender.0) × (heading.sender.0 ≤ 16) × (heading.n ≤ 16) × (body_at heading.n ≤ packet) × (packet ≤ 267) }
-    ensures { result ≡ record { sender = heading.sender; number = edit_no (entry past heading.sender); length = packet - body_at heading.n } }
+pub fn edit_in(message: Message, packet: usize) -> Edit
+    requires body { body_at message.heading.n ≤ packet }
+    requires short { packet ≤ 267 }
+    ensures { result ≡ record { sender = message.heading.sender; number = edit_no (entry message.past message.heading.sender); length = packet - body_at message.heading.n } }
 {
-    let sender = heading.sender;
-    let at = (sender.0 - 1) as usize;
-    let number = EditNo(past[at]);
-    let seats = heading.n as usize;
-    let length = (packet - (HEAD_LEN + 4 * seats)) as u16;
+    let heading = message.heading;
     Edit {
-        sender,
-        number,
-        length,
+        sender: heading.sender,
+        number: message.number(),
+        length: (packet - (HEAD_LEN + 4 * heading.n as usize)) as u16,
     }
 }
 
-// The answer to a packet that passed refusals 10 to 18.
-fn admitted(
-    seat: Seat,
-    heading: Heading,
-    past: [u16; 16],
-    barrier: [u16; 16],
-    edit: Edit,
-    shelf: &[u8],
-) -> Answer
-    ensures { result ≡ admitted_answer seat shelf.now heading past barrier edit }
+// Where a packet goes that passed refusals 10 to 18.
+fn place_of(seat: Seat, message: Message, shelf: &[u8]) -> Result<Place, Refusal>
+    ensures answer { (edit : Edit) → answer_of edit result ≡ admitted_answer seat shelf.now message.heading message.past message.barrier edit }
+    ensures slot { IfOk result (GoesToLowest shelf.now) }
 {
-    if is_ready(seat, barrier) {
-        if is_barrier_above_past(seat, heading, past, barrier) {
-            return Answer::Refused(Refusal::BarrierAbovePast);
+    if is_ready(seat, message.barrier) {
+        if is_barrier_above_past(seat, message) {
+            return Err(Refusal::BarrierAbovePast);
         }
-        return Answer::Done(edit);
+        return Ok(Place::Seat);
     }
-    if shelf::lowest_free(shelf) == shelf.len() / SLOT_SIZE {
-        return Answer::Refused(Refusal::ShelfFull);
+    match shelf::lowest_free(shelf) {
+        None => Err(Refusal::ShelfFull),
+        Some(free) => Ok(Place::Slot(free)),
     }
-    Answer::Shelved
 }
 
-// The answer to a packet that passed refusals 10 and 14.
-fn judged(
-    seat: Seat,
-    heading: Heading,
-    past: [u16; 16],
-    barrier: [u16; 16],
-    repeated: bool,
-    edit: Edit,
-    shelf: &[u8],
-) -> Answer
-    requires { edit.number.0 ≡ entry past heading.sender }
-    ensures { result ≡ first_of (admission_refusals seat heading past repeated) (admitted_answer seat shelf.now heading past barrier edit) }
+// Where a packet goes that passed refusals 10 and 14. The words say which numbers are handed over or on the shelf.
+fn judge(seat: Seat, marks: [u64; 16], message: Message, shelf: &[u8]) -> Result<Place, Refusal>
+    ensures answer { (edit : Edit) → answer_of edit result ≡ first_of (admission_refusals seat message.heading message.past (handed (window_with seat.run marks message.heading.sender) (entry message.past message.heading.sender))) (admitted_answer seat shelf.now message.heading message.past message.barrier edit) }
+    ensures slot { IfOk result (GoesToLowest shelf.now) }
 {
-    if heading.n != seat.n {
-        return Answer::Refused(Refusal::OtherSession);
+    let sender = message.heading.sender;
+    let number = message.number();
+    if message.heading.n != seat.n {
+        return Err(Refusal::OtherSession);
     }
-    if is_above_own_count(seat, past) {
-        return Answer::Refused(Refusal::AboveOwnCount);
+    if is_above_own_count(seat, message.past) {
+        return Err(Refusal::AboveOwnCount);
     }
-    if repeated {
-        return Answer::Refused(Refusal::Repeated);
+    let run = seat.run;
+    if window_with(&run, &marks, sender).holds(number) {
+        return Err(Refusal::Repeated);
     }
-    let sender = heading.sender;
-    let number = edit.number;
     if is_too_far_ahead(seat, sender, number) {
-        return Answer::Refused(Refusal::TooFarAhead);
+        return Err(Refusal::TooFarAhead);
     }
-    admitted(seat, heading, past, barrier, edit, shelf)
+    place_of(seat, message, shelf)
 }
 
 // A packet that was read as well formed arrives at a sound seat and shelf.
 pub fn settle(
     seat: Seat,
     stock: Stock,
-    heading: Heading,
-    past: [u16; 16],
-    barrier: [u16; 16],
+    message: Message,
     packet: &[u8],
     shelf: &mut [u8],
 ) -> Stepped
-    requires { Heard seat shelf.old stock packet.now heading past barrier }
+    requires { Heard seat shelf.old stock packet.now message.heading message.past message.barrier }
     ensures { Arrived seat packet.now shelf.old result shelf.new }
 {
-    let edit = edit_in(heading, past, packet.len());
-    let run = seat.run;
     let marks = stock.marks;
-    let sender = heading.sender;
-    let number = edit.number;
-    let repeated = window_with(&run, &marks, sender).holds(number);
-    let answer = judged(seat, heading, past, barrier, repeated, edit, &*shelf);
-    match answer {
-        Answer::Done(_) => {
-            let next = hand_over(seat, heading, past, barrier);
-            Stepped { seat: next, answer }
-        }
-        Answer::Shelved => {
-            let free = shelf::lowest_free(&*shelf);
+    match judge(seat, marks, message, &*shelf) {
+        Ok(Place::Seat) => Stepped {
+            seat: hand_over(seat, message),
+            answer: Answer::Done(edit_in(message, packet.len())),
+        },
+        Ok(Place::Slot(free)) => {
             shelf::lay(shelf, free, packet);
-            Stepped { seat, answer }
+            Stepped {
+                seat,
+                answer: Answer::Shelved,
+            }
         }
-        Answer::Opened => Stepped { seat, answer },
-        Answer::NothingReady => Stepped { seat, answer },
-        Answer::Refused(_) => Stepped { seat, answer },
+        Err(refusal) => refuse(seat, refusal),
     }
 }

@@ -16,10 +16,9 @@ ghost use Rattle.seat.specs.Sending.{Sent};
 
 use answers::{Answer, Edit, EditNo, Refusal, SeatNo};
 use arrival::settle;
-use packet::{BODY_MOST, HEAD_LEN, Header, ReadAnswer, in_range, put_packet};
-use sending::{after_sending, barrier_sent, kind_of, own_count, past_sent};
+use packet::{BODY_MOST, HEAD_LEN, Header, Kind};
+use sending::{after_sending, message_sent, own_count, past_sent};
 use shelf::SLOT_SIZE;
-use state::header_of;
 pub use state::is_sound;
 use stock::look_over;
 use taking::take;
@@ -76,7 +75,7 @@ fn no_seat() -> Seat
 
 // A refusal, with the state that it hands back.
 fn refuse(seat: Seat, refusal: Refusal) -> Stepped
-    ensures { (result.seat ≡ seat) × (result.answer ≡ Answer.Refused refusal) }
+    ensures { result ≡ record { seat = seat; answer = Answer.Refused refusal } }
 {
     Stepped {
         seat,
@@ -89,7 +88,8 @@ impl Seat {
     pub fn open(n: u8, own: SeatNo, shelf: &mut [u8]) -> Stepped
         ensures { OpenedAs n own shelf.old result shelf.new }
     {
-        if !in_range(Header { n, sender: own }) {
+        let header = Header { n, sender: own };
+        if !header.is_in_range() {
             return refuse(no_seat(), Refusal::NoSuchSeat);
         }
         if !shelf::has_whole_slots(shelf) {
@@ -116,30 +116,19 @@ impl Seat {
         if count == COUNT_MOST {
             return refuse(self, Refusal::CountFull);
         }
-        let seats = self.n as usize;
-        let length = HEAD_LEN + 4 * seats + body.len();
+        let length = HEAD_LEN + 4 * self.n as usize + body.len();
         if out.len() < length {
             return refuse(self, Refusal::OutputTooShort);
         }
-        let kind = kind_of(wish);
+        let kind = Kind::from(wish);
         let past = past_sent(self);
-        put_packet(
-            kind,
-            header_of(self),
-            past,
-            barrier_sent(self, kind),
-            body,
-            out,
-        );
-        let sender = self.own;
-        let number = count + 1;
-        let length = length as u16;
+        message_sent(self, kind, past).put(body, out);
         Stepped {
             seat: after_sending(self, kind, past),
             answer: Answer::Done(Edit {
-                sender,
-                number: EditNo(number),
-                length,
+                sender: self.own,
+                number: EditNo(count + 1),
+                length: length as u16,
             }),
         }
     }
@@ -152,15 +141,9 @@ impl Seat {
         if !stock.sound {
             return refuse(self, Refusal::NotSound);
         }
-        let reading = packet::read(packet);
-        let told = reading.answer;
-        let past = reading.past;
-        let barrier = reading.barrier;
-        match told {
-            ReadAnswer::Refused => refuse(self, Refusal::NotWellFormed),
-            ReadAnswer::Packet(heading) => settle(
-                self, stock, heading, past, barrier, packet, shelf,
-            ),
+        match packet::read_message(packet) {
+            Ok(message) => settle(self, stock, message, packet, shelf),
+            Err(point) => refuse(self, point.into()),
         }
     }
 

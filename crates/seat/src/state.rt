@@ -4,8 +4,7 @@ ghost use Rattle.seat.specs.State.{header_of, sound_windows, sound_state};
 ghost use Rattle.seat.specs.HandingOver.{ready, raised_by, hand_over, Due, barrier_above_past};
 
 use super::Seat;
-use answers::EditNo;
-use packet::{Header, Heading, Kind, in_range};
+use packet::{Header, Kind, Message};
 use vectors::{is_within, is_zero, is_zero_above, max_of};
 use window::Window;
 
@@ -35,7 +34,7 @@ fn has_sound_windows(seat: Seat) -> bool
 pub fn is_sound(seat: Seat) -> bool
     ensures { result ≡ sound_state seat }
 {
-    if !in_range(header_of(seat)) {
+    if !header_of(seat).is_in_range() {
         return false;
     }
     let seats = seat.n as usize;
@@ -72,38 +71,30 @@ pub fn raised_by(kind: Kind, past: [u16; 16], barrier: [u16; 16]) -> [u16; 16]
 }
 
 // Whether barrier would stand above past after handing over.
-pub fn is_barrier_above_past(
-    seat: Seat,
-    heading: Heading,
-    past: [u16; 16],
-    barrier: [u16; 16],
-) -> bool
-    ensures { result ≡ barrier_above_past seat heading past barrier }
+pub fn is_barrier_above_past(seat: Seat, message: Message) -> bool
+    ensures { result ≡ barrier_above_past seat message.heading message.past message.barrier }
 {
-    let kind = heading.kind;
-    let own_past = seat.past;
-    let own_barrier = seat.barrier;
-    let raised = max_of(own_barrier, raised_by(kind, past, barrier));
-    !is_within(raised, max_of(own_past, past))
+    let raised = raised_by(message.heading.kind, message.past, message.barrier);
+    !is_within(
+        max_of(seat.barrier, raised),
+        max_of(seat.past, message.past),
+    )
 }
 
 // Lines 7 to 10. The callers have found the edit to be new and in the sender's window, and the state to be sound.
-pub fn hand_over(seat: Seat, heading: Heading, past: [u16; 16], barrier: [u16; 16]) -> Seat
-    requires { Due seat heading past }
-    ensures { result ≡ hand_over seat heading past barrier }
+pub fn hand_over(seat: Seat, message: Message) -> Seat
+    requires { Due seat message.heading message.past }
+    ensures { result ≡ hand_over seat message.heading message.past message.barrier }
 {
-    let kind = heading.kind;
-    let at = (heading.sender.0 - 1) as usize;
+    let raised = raised_by(message.heading.kind, message.past, message.barrier);
+    let at = message.heading.sender.index();
     let run = seat.run[at];
     let ahead = seat.ahead[at];
-    let number = past[at];
-    let moved = Window { run, ahead }.hand_over(EditNo(number));
-    let own_past = seat.past;
-    let own_barrier = seat.barrier;
+    let moved = Window { run, ahead }.hand_over(message.number());
     let mut next = seat;
     next.run[at] = moved.run;
     next.ahead[at] = moved.ahead;
-    next.past = max_of(own_past, past);
-    next.barrier = max_of(own_barrier, raised_by(kind, past, barrier));
+    next.past = max_of(seat.past, message.past);
+    next.barrier = max_of(seat.barrier, raised);
     next
 }

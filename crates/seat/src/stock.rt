@@ -11,7 +11,7 @@ use super::Seat;
 use super::sending::own_count;
 use super::state::{is_ready, is_sound};
 use answers::{EditNo, SeatNo};
-use packet::{HEAD_LEN, Heading, ReadAnswer};
+use packet::{HEAD_LEN, Heading};
 use shelf::SLOT_SIZE;
 use window::Window;
 
@@ -216,14 +216,10 @@ fn look(
     ensures { (length marks.new ≡ 16) × Looked choosing (i + 1) seat shelf.now (stock_of result marks.new) }
 {
     let slot = shelf::slot(shelf, i);
-    let reading = packet::read(packet_in(slot));
-    let answer = reading.answer;
-    match answer {
-        ReadAnswer::Refused => unsound(seen),
-        ReadAnswer::Packet(heading) => {
-            let sender = heading.sender;
-            let barrier = reading.barrier;
-            if !passes_beside(seat, run, &*marks, heading, &reading.past) {
+    match packet::read_message(packet_in(slot)) {
+        Err(_) => unsound(seen),
+        Ok(message) => {
+            if !passes_beside(seat, run, &*marks, message.heading, &message.past) {
                 return unsound(seen);
             }
             count_in(
@@ -233,9 +229,9 @@ fn look(
                 marks,
                 seen,
                 i,
-                sender,
-                &reading.past,
-                barrier,
+                message.heading.sender,
+                &message.past,
+                message.barrier,
             )
         }
     }

@@ -7,38 +7,28 @@ use super::state::{hand_over, is_barrier_above_past};
 use super::stock::held_in;
 use super::{Seat, Stepped, refuse};
 use answers::{Answer, Refusal};
-use packet::{HEAD_LEN, Heading, ReadAnswer};
+use packet::{HEAD_LEN, Message};
 use vectors::bytes::put_bytes;
 
 // The packet on slot i is handed over, where its body has room. The caller has read it.
-fn hand_out(
-    seat: Seat,
-    heading: Heading,
-    past: [u16; 16],
-    barrier: [u16; 16],
-    i: usize,
-    shelf: &mut [u8],
-    out: &mut [u8],
-) -> Stepped
-    requires { ChosenRead seat shelf.old i heading past barrier }
+fn hand_out(seat: Seat, message: Message, i: usize, shelf: &mut [u8], out: &mut [u8]) -> Stepped
+    requires { ChosenRead seat shelf.old i message.heading message.past message.barrier }
     ensures { Released seat shelf.old out.old result shelf.new out.new }
 {
     let packet = held_in(shelf::slot(&*shelf, i));
-    let edit = edit_in(heading, past, packet.len());
-    let seats = heading.n as usize;
-    let at = HEAD_LEN + 4 * seats;
+    let edit = edit_in(message, packet.len());
+    let at = HEAD_LEN + 4 * message.heading.n as usize;
     let body = &packet[at..];
     if out.len() < body.len() {
         return refuse(seat, Refusal::OutputTooShort);
     }
-    if is_barrier_above_past(seat, heading, past, barrier) {
+    if is_barrier_above_past(seat, message) {
         return refuse(seat, Refusal::BarrierAbovePast);
     }
     put_bytes(out, 0, body);
     shelf::clear(shelf, i);
-    let next = hand_over(seat, heading, past, barrier);
     Stepped {
-        seat: next,
+        seat: hand_over(seat, message),
         answer: Answer::Done(edit),
     }
 }
@@ -48,13 +38,7 @@ pub fn take(seat: Seat, i: usize, shelf: &mut [u8], out: &mut [u8]) -> Stepped
     requires { Chosen seat shelf.old i }
     ensures { Released seat shelf.old out.old result shelf.new out.new }
 {
-    let reading = packet::read(held_in(shelf::slot(&*shelf, i)));
-    let told = reading.answer;
-    let past = reading.past;
-    let barrier = reading.barrier;
-    match told {
-        // A sound shelf holds no such packet.
-        ReadAnswer::Refused => refuse(seat, Refusal::NotSound),
-        ReadAnswer::Packet(heading) => hand_out(seat, heading, past, barrier, i, shelf, out),
-    }
+    // A sound shelf holds well formed packets alone.
+    let message = packet::read_message(held_in(shelf::slot(&*shelf, i))).unwrap();
+    hand_out(seat, message, i, shelf, out)
 }

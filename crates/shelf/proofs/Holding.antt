@@ -2,15 +2,16 @@
 use Prim.Native.Nat.{ℕ, suc, ◌+◌, ◌*◌, ◌-◌, ◌≤◌, ◌<◌}
 use mathlib.Core.Path.{◌≡◌, refl, sym, ap, ap₂, ◌∙◌}
 use mathlib.Core.Bool.{true, false}
-use mathlib.Core.List.{List, [], ◌∷◌, ◌++◌}
-use native.Mathlib.Numerals.{add-one, one-add}
+use mathlib.Core.List.{List, [], ◌∷◌, ◌++◌, append-nil}
+use native.Mathlib.Numerals.{one-add}
 use native.Mathlib.Omega.{arith}
-use lib.ListN.{length, get_or, set, take, drop, replicate, length-append, length-replicate}
-use lib.Seq.{sets, take_at, drop_at}
-use Rattle.vectors.proofs.Numbers.{sets_then}
+use lib.ListN.{length, get_or, set, take, drop, replicate, length-append, length-replicate, length-set, length-drop, drop_of_length-le}
+use lib.Seq.{length-take-le, take_at, drop_at}
+use borrow.Rule.Slice.PartMut.{put_mid, same_len_mid, Post-is}
+use Rattle.std.proofs.lemmas.Slice.{take-put_mid}
 use Rattle.shelf.specs.Shelf.{slot_size, slots, slot_at, all_zero, is_free, slot_of, laid, free_slot, rest_zero}
 use Rattle.shelf.proofs.Zeros.{one_byte_not_zero, all_zero_are_zeros, zeros_are_all_zero, part_is_all_zero, zeros_to_the_end}
-use Rattle.shelf.proofs.Slots.{length_slot_at, laid_is_stored, laid_reads_back}
+use Rattle.shelf.proofs.Slots.{length_slot_at, laid_reads_back}
 
 -- ---- a free slot
 
@@ -63,16 +64,38 @@ module _ (packet : List ℕ) (short : length packet ≤ slot_size - 1) where
     pub laid_is_not_free : is_free (laid shelf i (slot_of packet)) i ≡ false
     laid_is_not_free = ap all_zero (laid_reads_back shelf i (slot_of packet) there length_slot_of) ∙ slot_of_is_not_zero
 
-    -- a byte 1, the packet and zeros, stored one after another, lay the packet
-    pub stored_in_turn : (with-packet next : List ℕ) → with-packet ≡ sets (set shelf (slot_size * i) 1) (slot_size * i + 1) packet
-        → next ≡ sets with-packet (slot_size * i + 1 + length packet) (replicate (slot_size - 1 - length packet) 0) → next ≡ laid shelf i (slot_of packet)
-    unfolding slot_of
-    stored_in_turn with-packet next first then =
-        let start = slot_size * i in
-        let zeros : List ℕ = replicate (slot_size - 1 - length packet) 0 in
-        then ∙ ap (λ (l : List ℕ). sets l (start + 1 + length packet) zeros) first
-        ∙ sets_then (set shelf start 1) (start + 1) packet zeros (start + 1 + length packet) refl
-        ∙ rw add-one (sym (laid_is_stored shelf i (slot_of packet) there length_slot_of))
+-- a byte 1, the packet and zeros, each written in its part of a slot, are the slot with the packet
+first_byte_set : (slot : List ℕ) → 0 < length slot → take 1 (set slot 0 1) ≡ 1 ∷ []
+first_byte_set [] h = absurd (omega arith)
+first_byte_set (x ∷ t) h = refl
+
+module _ (packet slot copied zeros : List ℕ) (short : length packet ≤ slot_size - 1) (long : length slot ≡ slot_size) (copy : copied ≡ packet) where
+  with_packet : List ℕ
+  with_packet = put_mid 1 (1 + length packet - 1) (set slot 0 1) copied
+
+  as_many : length (set slot 0 1) ≡ slot_size
+  as_many = length-set slot 0 1 ∙ long
+
+  as_long : length with_packet ≡ slot_size
+  unfolding with_packet
+  as_long =
+      same_len_mid 1 (1 + length packet - 1) (set slot 0 1) copied
+      (ap length copy ∙ sym (length-take-le (1 + length packet - 1) (drop 1 (set slot 0 1)) (rw (length-drop, as_many) (omega arith)) ∙ omega arith))
+      ∙ as_many
+
+  pub written_in_turn : zeros ≡ replicate (length (take (length (put_mid 1 (1 + length packet - 1) (set slot 0 1) copied) - (1 + length packet)) (drop (1 + length packet) (put_mid 1 (1 + length packet - 1) (set slot 0 1) copied)))) 0
+      → put_mid (1 + length packet) (length (put_mid 1 (1 + length packet - 1) (set slot 0 1) copied) - (1 + length packet)) (put_mid 1 (1 + length packet - 1) (set slot 0 1) copied) zeros ≡ slot_of packet
+  unfolding with_packet slot_of
+  written_in_turn fill =
+      let place = 1 + length packet in
+      let front : take place with_packet ≡ 1 ∷ packet =
+      take-put_mid 1 (place - 1) (set slot 0 1) copied place (ap (λ (l : List ℕ). 1 + length l) (sym copy)) (omega (arith, as_many))
+      ∙ ap₂ (λ (a b : List ℕ). a ++ b) (first_byte_set slot (omega (arith, long))) copy in
+      let back : drop (length with_packet - place) (drop place with_packet) ≡ [] =
+      Post-is place (length with_packet) with_packet (omega (arith, as_long)) ∙ drop_of_length-le with_packet (omega arith) in
+      let many : length (take (length with_packet - place) (drop place with_packet)) ≡ slot_size - 1 - length packet =
+      length-take-le (length with_packet - place) (drop place with_packet) (omega (arith, length-drop place with_packet)) ∙ omega (arith, as_long) in
+      ap₂ (λ (a b : List ℕ). a ++ (zeros ++ b)) front back ∙ ap (λ (l : List ℕ). 1 ∷ (packet ++ l)) (append-nil zeros ∙ fill ∙ ap (λ (n : ℕ). replicate n 0) many)
 
 -- a slot with a byte 1, m bytes, and zeros holds these m bytes
 pub slot_holds : (slot : List ℕ) (m : ℕ) → get_or slot 0 0 ≡ 1 → length slot ≡ slot_size → rest_zero slot (1 + m) ≡ true → slot ≡ slot_of (take m (drop 1 slot))

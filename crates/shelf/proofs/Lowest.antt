@@ -1,10 +1,13 @@
 -- Laws of `lowest`: what the first index of which a test holds is, and that no other index is it.
 use Prim.Native.Nat.{ℕ, zero, suc, ◌≤◌, ◌<◌}
-use mathlib.Core.Path.{◌≡◌, refl, sym, ap}
-use mathlib.Core.Bool.{Bool, true, false, cond}
+use mathlib.Core.Path.{◌≡◌, refl, sym, ap, ◌∙◌}
+use mathlib.Core.Bool.{Bool, true, false, cond, true≢false}
 use native.Mathlib.Nat.{not-suc-le-zero, le_of_suc-le-suc}
 use native.Mathlib.Omega.{arith}
-use Rattle.shelf.specs.Shelf.{lowest}
+use borrow.Author.Tests.{ltb-true, ltb-false, lt-ltb, le-ltb}
+use lib.Dec.{ltb}
+use Rattle.std.specs.Prelude.{Option, Some, None, MatchOption, is_some}
+use Rattle.shelf.specs.Shelf.{lowest, slot_or_none}
 
 -- r is at most n, the test fails below it, and holds of it where it is below n
 pub record Lowest (n : ℕ) (test : ℕ → Bool) (r : ℕ) : Type 0 where
@@ -46,3 +49,44 @@ none_lowest n test none =
 
 pub lowest_none : (n : ℕ) (test : ℕ → Bool) → lowest n test ≡ n → (k : ℕ) → k < n → test k ≡ false
 lowest_none n test e k h = (lowest_is_lowest n test).fails_below k (omega arith)
+
+-- what a search below n found is it, and where nothing was found there is none
+pub found_is_lowest : (n : ℕ) (test : ℕ → Bool) (r : Option ℕ)
+    → MatchOption r ((k : ℕ) → 0 ≤ k → k < n → test k ≡ false) (λ i. (0 ≤ i) × (i < n) × (test i ≡ true) × ((k : ℕ) → 0 ≤ k → k < i → test k ≡ false))
+    → r ≡ slot_or_none n (lowest n test)
+found_is_lowest n test None none =
+    let is : lowest n test ≡ n = none_lowest n test (λ k h. none k (omega arith) h) in
+    rw (is, le-ltb n n (omega arith))
+found_is_lowest n test (Some i) found =
+    let is : i ≡ lowest n test =
+    only_lowest n test i (record { most = omega (arith, found.1); fails_below = λ k h. found.3 k (omega arith) h; holds = λ h. found.2 }) in
+    rw (← is, lt-ltb i n found.1)
+
+-- ---- an index below n, or none
+
+no_index : (n i : ℕ) (below : Bool) → ltb i n ≡ below → is_some (cond below (Some i) None) ≡ false → n ≤ i
+no_index n i true e none = absurd (true≢false none)
+no_index n i false e none = ltb-false i n e
+
+an_index : (n i : ℕ) (below : Bool) → ltb i n ≡ below → is_some (cond below (Some i) None) ≡ true → i < n
+an_index n i true e some = ltb-true i n e
+an_index n i false e some = absurd (true≢false (sym some))
+
+same_index : (i at : ℕ) (below : Bool) → cond below (Some i) None ≡ Some at → at ≡ i
+same_index i at true e = cc
+same_index i at false e = let no : false ≡ true = ap is_some e in absurd (true≢false (sym no))
+
+pub some_of : (n i : ℕ) → i < n → slot_or_none n i ≡ Some i
+some_of n i h = rw (lt-ltb i n h)
+
+module _ (n i : ℕ) (r : Option ℕ) (is : r ≡ slot_or_none n i) where
+  pub none_is_past : is_some r ≡ false → n ≤ i
+  none_is_past none = no_index n i (ltb i n) refl (sym (ap is_some is) ∙ none)
+
+  pub some_is_below : is_some r ≡ true → i < n
+  some_is_below some = an_index n i (ltb i n) refl (sym (ap is_some is) ∙ some)
+
+  pub some_is_it : (at : ℕ) → r ≡ Some at → (at ≡ i) × (at < n)
+  some_is_it at e =
+      let same : at ≡ i = same_index i at (ltb i n) (sym is ∙ e) in
+      (same, rw same (some_is_below (ap is_some e)))

@@ -1,12 +1,12 @@
 -- Laws of slots: a shelf with other bytes in place of a slot, read slot by slot.
-use Prim.Native.Nat.{ℕ, ◌+◌, ◌*◌, ◌/◌, ◌%◌, ◌≤◌, ◌<◌}
-use mathlib.Core.Path.{◌≡◌, sym, ap, ◌∙◌}
+use Prim.Native.Nat.{ℕ, ◌+◌, ◌-◌, ◌*◌, ◌/◌, ◌%◌, ◌≤◌, ◌<◌}
+use mathlib.Core.Path.{◌≡◌, ap}
 use mathlib.Core.Bool.{true}
-use mathlib.Core.List.{List, append_assoc}
+use mathlib.Core.List.{List, ◌++◌}
 use native.Mathlib.Omega.{arith}
 use lib.Dec.{eqb, leb}
 use lib.ListN.{length, take, drop}
-use lib.Seq.{sets, sets-eq}
+use borrow.Rule.Slice.PartMut.{put_mid, Post-is}
 use borrow.Author.Tests.{eqb-true, leb-true}
 use Rattle.vectors.proofs.Every.{and_both}
 use Rattle.shelf.specs.Shelf.{slot_size, slots_most, slots, whole_slots, slot_at, laid}
@@ -28,14 +28,17 @@ pub length_slot_at : (shelf : List ℕ) (i : ℕ) → i < slots shelf → length
 unfolding slot_at
 length_slot_at shelf i there = length_piece slot_size shelf i (slot_inside shelf i there)
 
-module _ (shelf : List ℕ) (i : ℕ) (slot : List ℕ) (there : i < slots shelf) (long : length slot ≡ slot_size) where
-  -- laying writes the slot's bytes at its place
-  pub laid_is_stored : laid shelf i slot ≡ sets shelf (slot_size * i) slot
-  unfolding laid
-  laid_is_stored =
-      sym
-      (rw long at (sets-eq slot shelf (slot_size * i) (omega arith)) ∙ append_assoc (take (slot_size * i) shelf) slot (drop (slot_size * i + slot_size) shelf))
+-- slot i as it is lent, and the shelf when other bytes come back in its place
+pub slot_lent : (shelf : List ℕ) (i : ℕ) → take (slot_size * i + slot_size - slot_size * i) (drop (slot_size * i) shelf) ≡ slot_at shelf i
+unfolding slot_at
+slot_lent shelf i = let long : slot_size * i + slot_size - slot_size * i ≡ slot_size = omega arith in rw long
 
+pub slot_back : (shelf : List ℕ) (i : ℕ) (slot : List ℕ) → put_mid (slot_size * i) (slot_size * i + slot_size - slot_size * i) shelf slot ≡ laid shelf i slot
+unfolding laid
+slot_back shelf i slot =
+    ap (λ (rest : List ℕ). take (slot_size * i) shelf ++ (slot ++ rest)) (Post-is (slot_size * i) (slot_size * i + slot_size) shelf (omega arith))
+
+module _ (shelf : List ℕ) (i : ℕ) (slot : List ℕ) (there : i < slots shelf) (long : length slot ≡ slot_size) where
   pub laying_keeps_length : length (laid shelf i slot) ≡ length shelf
   unfolding laid
   laying_keeps_length = length_put slot_size shelf i slot (slot_inside shelf i there) long

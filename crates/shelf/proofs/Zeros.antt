@@ -1,13 +1,19 @@
--- Laws of zeros: bytes that are all zero, the byte that gathers them, and zeros that are stored.
-use Prim.Native.Nat.{ℕ, ◌+◌, ◌-◌, ◌≤◌, ◌<◌}
-use mathlib.Core.Path.{◌≡◌, sym, ap, ◌∙◌}
-use mathlib.Core.Bool.{Bool, true, false, ◌&&◌}
-use mathlib.Core.List.{List, [], ◌∷◌, ◌++◌, append-nil}
+-- Laws of zeros: bytes that are all zero, and the number that gathers them.
+use Prim.Native.Nat.{ℕ, zero, suc, ◌+◌, ◌-◌, ◌≤◌, ◌<◌}
+use mathlib.Core.Path.{◌≡◌, refl, sym, ap, ap₂, ◌∙◌}
+use mathlib.Core.Bool.{Bool, true, false, ◌&&◌, and-true, and_assoc}
+use native.Mathlib.Numerals.{one-add}
+use native.Mathlib.Nat.{add-zero, zero-add, sub-zero}
+use lib.Bits.{bit_or}
+use Rattle.std.specs.List.{fold, list_all, range_with_len}
+use Rattle.std.proofs.lemmas.List.Folds.{list_all-append}
+use Rattle.vectors.proofs.Tests.{or_is_zero}
+use mathlib.Core.List.{List, [], ◌∷◌, ◌++◌}
 use native.Mathlib.Decide.{dec_lt}
 use native.Mathlib.Omega.{arith}
 use lib.Dec.{eqb}
-use lib.ListN.{length, get_or, take, drop, length-drop, replicate, length-append, length-take, length-replicate, get_or-replicate, replicate-append-replicate, take-append-drop, drop_of_length-le, get_or-eq_default}
-use lib.Seq.{length-take-le, ext_get_or, get_or-take, get_or-drop, sets, sets-eq}
+use lib.ListN.{length, get_or, take, drop, length-drop, replicate, length-append, length-take, length-replicate, get_or-replicate, take-append-drop, get_or-eq_default}
+use lib.Seq.{length-take-le, ext_get_or, get_or-take, get_or-drop}
 use borrow.Author.Tests.{eqb-true, eq-eqb, ne_eqb}
 use Rattle.vectors.specs.Vectors.{all}
 use Rattle.vectors.proofs.Every.{all_at, all_of, all_fails, all_same, all_split}
@@ -71,15 +77,39 @@ zeros_to_the_end s m rest =
     let many : length (drop m s) ≡ length s - length (take m s) = omega arith in
     sym (take-append-drop m s) ∙ ap (λ (l : List ℕ). take m s ++ l) (all_zero_are_zeros (drop m s) rest ∙ ap (λ (n : ℕ). replicate n 0) many)
 
--- ---- stored
+-- ---- gathered
 
-pub one_zero_more : (n : ℕ) → replicate {A = ℕ} (n + 1) 0 ≡ replicate n 0 ++ (0 ∷ [])
-one_zero_more n = sym (replicate-append-replicate n 1 0)
+-- the first byte, and those after it
+all_zero_first : (x : ℕ) (s : List ℕ) → all_zero (x ∷ s) ≡ (eqb x 0 && all_zero s)
+unfolding all_zero all
+all_zero_first x s = ap (λ (n : ℕ). all n (λ k. eqb (get_or (x ∷ s) k 0) 0)) (sym (one-add (length s))) ∙ all_split 1 (length s) (λ k. eqb (get_or (x ∷ s) k 0) 0)
+    ∙ ap (λ (t : Bool). eqb x 0 && t) (all_same (length s) (λ k. eqb (get_or (x ∷ s) (1 + k) 0) 0) (λ k. eqb (get_or s k 0) 0) (λ k h. rw (one-add k)))
 
--- zeros over the whole list
-pub zeros_stored : (l : List ℕ) → sets l 0 (replicate (length l) 0) ≡ replicate (length l) 0
-zeros_stored l =
-    let zeros : List ℕ = replicate (length l) 0 in
-    let long : length zeros ≡ length l = length-replicate (length l) 0 in
-    let past : length l ≤ 0 + length zeros = omega arith in
-    sets-eq zeros l 0 (omega arith) ∙ rw (drop_of_length-le l past) (append-nil zeros)
+gathered_onto : (x : ℕ) (s : List ℕ) → eqb (fold bit_or x s) 0 ≡ (eqb x 0 && all_zero s)
+unfolding all_zero all
+gathered_onto x [] = sym (and-true (eqb x 0))
+gathered_onto x (y ∷ s) =
+    gathered_onto (bit_or x y) s ∙ ap (λ (t : Bool). t && all_zero s) (or_is_zero x y) ∙ and_assoc (eqb x 0) (eqb y 0) (all_zero s)
+    ∙ ap (λ (t : Bool). eqb x 0 && t) (sym (all_zero_first y s))
+
+-- bytes gathered in one are 0 exactly where each of them is
+pub gathered_zero : (s : List ℕ) → eqb (fold bit_or 0 s) 0 ≡ all_zero s
+gathered_zero s = gathered_onto 0 s
+
+-- the same over any items: one item more
+pub gathered_one_more : {A : Type 0} (test : A → Bool) (items : List A) (item : A) (before x next : ℕ) → eqb before 0 ≡ list_all test items → eqb x 0 ≡ test item → next ≡ bit_or before x
+    → eqb next 0 ≡ list_all test (items ++ (item ∷ []))
+gathered_one_more test items item before x next so here e =
+    ap (λ (n : ℕ). eqb n 0) e ∙ or_is_zero before x ∙ ap₂ ◌&&◌ so (here ∙ sym (and-true (test item))) ∙ sym (list_all-append test items (item ∷ []))
+
+-- a test of each number of a range
+listed_from : (a n : ℕ) (test : ℕ → Bool) → list_all test (range_with_len a n) ≡ all n (λ k. test (a + k))
+unfolding all
+listed_from a zero test = refl
+listed_from a (suc n) test =
+    ap (λ (t : Bool). test a && t) (listed_from (a + 1) n test ∙ all_same n _ _ (λ k h. ap test (omega arith)))
+    ∙ ap (λ (i : ℕ). test i && all n (λ k. test (a + (1 + k)))) (sym (add-zero a))
+    ∙ sym (all_split 1 n (λ k. test (a + k))) ∙ ap (λ (m : ℕ). all m (λ k. test (a + k))) (one-add n)
+
+pub listed : (n : ℕ) (test : ℕ → Bool) → list_all test (range_with_len 0 (n - 0)) ≡ all n test
+listed n test = rw sub-zero (listed_from 0 n test ∙ all_same n _ _ (λ k h. ap test (zero-add k)))

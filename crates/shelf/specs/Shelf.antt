@@ -1,6 +1,6 @@
 -- The shelf: a buffer of whole slots. A slot is all zero (free), or a byte 1, a packet, and zeros to its end. What a
 -- packet says is not known here.
-use Rattle.std.specs.Prelude.{ℕ, zero, suc, ◌+◌, ◌*◌, ◌-◌, ◌/◌, ◌%◌, Bool, cond, ◌&&◌, List, ◌∷◌, ◌++◌, leb, eqb, length, get_or, take, drop, replicate}
+use Rattle.std.specs.Prelude.{ℕ, zero, suc, ◌+◌, ◌*◌, ◌-◌, ◌/◌, ◌%◌, Bool, cond, ◌&&◌, List, ◌∷◌, ◌++◌, leb, ltb, eqb, Option, Some, None, length, get_or, take, drop, replicate}
 use Rattle.vectors.specs.Vectors.{all}
 
 -- The bytes of a slot.
@@ -51,6 +51,10 @@ lowest (suc n) test = cond (test 0) 0 (suc (lowest n (λ k. test (suc k))))
 -- The first free slot, or the number of slots where there is none.
 abbrev pub lowest_free : List ℕ → ℕ
 lowest_free shelf = lowest (slots shelf) (is_free shelf)
+
+-- Slot i where it is one of n, and else none.
+abbrev pub slot_or_none : ℕ → ℕ → Option ℕ
+slot_or_none n i = cond (ltb i n) (Some i) None
 
 -- A slot has zeros alone from place `at` on.
 abbrev pub rest_zero : List ℕ → ℕ → Bool

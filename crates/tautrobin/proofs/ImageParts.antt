@@ -6,8 +6,8 @@ use mathlib.Core.List.{List, [], ◌∷◌, ◌++◌, append-nil}
 use native.Mathlib.Nat.{zero-add}
 use native.Mathlib.Decide.{dec_lt}
 use native.Mathlib.Omega.{arith}
-use lib.ListN.{length, get_or, set, take, drop, length-append, get_or-eq_default}
-use lib.Seq.{sets, sets-eq, take_all, drop-length}
+use lib.ListN.{length, get_or, set, drop, length-append, get_or-eq_default}
+use lib.Seq.{sets, sets-eq, drop-length}
 use Rattle.answers.specs.Answers.{seat_no}
 use Rattle.vectors.specs.Bytes.{number_at, fields_of, Bytes}
 use Rattle.vectors.proofs.Vector.{length_vector, vector_below}
@@ -94,8 +94,8 @@ module _ (seat : Seat) (long : Long seat) where
 
   -- what stands after the five parts were put down
   pub five_parts : (image a₁ a₂ a₃ a₄ a₅ : List ℕ) → length image ≡ image_size → a₁ ≡ set image 0 (numbers_byte seat)
-      → a₂ ≡ sets a₁ past_at (fields_of 2 (take 16 seat.past)) → a₃ ≡ sets a₂ barrier_at (fields_of 2 (take 16 seat.barrier))
-      → a₄ ≡ sets a₃ run_at (fields_of 2 (take 16 seat.run)) → a₅ ≡ sets a₄ ahead_at (fields_of 8 (take 16 seat.ahead))
+      → a₂ ≡ sets a₁ past_at (fields_of 2 seat.past) → a₃ ≡ sets a₂ barrier_at (fields_of 2 seat.barrier)
+      → a₄ ≡ sets a₃ run_at (fields_of 2 seat.run) → a₅ ≡ sets a₄ ahead_at (fields_of 8 seat.ahead)
       → a₅ ≡ encoded seat
   unfolding encoded
   five_parts image a₁ a₂ a₃ a₄ a₅ right e₁ e₂ e₃ e₄ e₅ =
@@ -110,17 +110,7 @@ module _ (seat : Seat) (long : Long seat) where
       let hpbr = length-append (H ++ P ++ B) R in
       let hpbra = length-append (H ++ P ++ B ++ R) A in
       let all : a₅ ≡ sets image 0 (H ++ P ++ B ++ R ++ A) =
-      rw (
-        e₅,
-        e₄,
-        e₃,
-        e₂,
-        e₁,
-        take_all 16 seat.past (omega (arith, long.past)),
-        take_all 16 seat.barrier (omega (arith, long.barrier)),
-        take_all 16 seat.run (omega (arith, long.run)),
-        take_all 16 seat.ahead (omega (arith, long.ahead)),
-      )
+      rw (e₅, e₄, e₃, e₂, e₁)
       (ap (λ (x : List ℕ). sets (sets (sets x barrier_at B) run_at R) ahead_at A) (sets_then image 0 H P past_at refl)
       ∙ ap (λ (x : List ℕ). sets (sets x run_at R) ahead_at A) (sets_then image 0 (H ++ P) B barrier_at (omega arith))
       ∙ ap (λ (x : List ℕ). sets x ahead_at A) (sets_then image 0 (H ++ P ++ B) R run_at (omega arith))

@@ -89,8 +89,8 @@ module _ (image : List ℕ) (right : length image ≡ image_size) (bytes : Bytes
         (ap₂ (λ (a b : List ℕ). a ++ b) (ap (fields_of 2) same.same_run ∙ fields_again 2 run_at (omega arith))
         (ap (fields_of 8) same.same_ahead ∙ fields_again 8 ahead_at (omega arith)))
 
-    pub counts_written : (first second : List ℕ) → first ≡ sets image past_at (fields_of 2 (take 16 seat.past))
-        → second ≡ sets first barrier_at (fields_of 2 (take 16 seat.barrier)) → second ≡ encoded seat
+    pub counts_written : (first second : List ℕ) → first ≡ sets image past_at (fields_of 2 seat.past)
+        → second ≡ sets first barrier_at (fields_of 2 seat.barrier) → second ≡ encoded seat
     unfolding encoded
     counts_written first second is_first is-second =
         let H = numbers_byte seat ∷ [] in
@@ -101,7 +101,7 @@ module _ (image : List ℕ) (right : length image ≡ image_size) (bytes : Bytes
         let p : length P ≡ 32 = length_fields_of 2 seat.past ∙ ap (λ (k : ℕ). 2 * k) long-past in
         let b : length B ≡ 32 = length_fields_of 2 seat.barrier ∙ ap (λ (k : ℕ). 2 * k) long-barrier in
         let pb : length (P ++ B) ≡ 64 = omega (arith, length-append P B) in
-        rw (is-second, is_first, take_all 16 seat.past (omega (arith, long-past)), take_all 16 seat.barrier (omega (arith, long-barrier)))
+        rw (is-second, is_first)
         (sets_then image past_at P B barrier_at (omega arith))
         ∙ sets-eq (P ++ B) image past_at (omega arith)
         ∙ ap (λ (n : ℕ). take 1 image ++ (P ++ B) ++ drop (1 + n) image) pb

@@ -4,7 +4,7 @@ ghost use Rattle.tautrobin.specs.Image.{image_size, decoded, encoded, numbers_by
 
 use answers::SeatNo;
 use seat::Seat;
-use vectors::bytes::{fields, put_fields, put_wide_fields, wide_fields};
+use vectors::bytes::{fields, put_fields};
 
 pub const IMAGE_SIZE: usize = 225;
 
@@ -27,7 +27,7 @@ pub fn decode(image: &[u8]) -> Seat
     let past = fields(image, PAST_AT, 16);
     let barrier = fields(image, BARRIER_AT, 16);
     let run = fields(image, RUN_AT, 16);
-    let ahead = wide_fields(image, AHEAD_AT, 16);
+    let ahead = fields(image, AHEAD_AT, 16);
     Seat {
         n,
         own: SeatNo(own),
@@ -54,8 +54,8 @@ pub fn encode_counts(seat: Seat, image: &mut [u8])
 {
     let past = seat.past;
     let barrier = seat.barrier;
-    put_fields(image, PAST_AT, 16, past);
-    put_fields(image, BARRIER_AT, 16, barrier);
+    put_fields(image, PAST_AT, &past);
+    put_fields(image, BARRIER_AT, &barrier);
 }
 
 // The image of a state. The callers have found its length to be right, and n and own number to be in range.
@@ -68,8 +68,8 @@ pub fn encode(seat: Seat, image: &mut [u8])
     let run = seat.run;
     let ahead = seat.ahead;
     put_numbers(seat, image);
-    put_fields(image, PAST_AT, 16, past);
-    put_fields(image, BARRIER_AT, 16, barrier);
-    put_fields(image, RUN_AT, 16, run);
-    put_wide_fields(image, AHEAD_AT, 16, ahead);
+    put_fields(image, PAST_AT, &past);
+    put_fields(image, BARRIER_AT, &barrier);
+    put_fields(image, RUN_AT, &run);
+    put_fields(image, AHEAD_AT, &ahead);
 }

@@ -11,7 +11,7 @@ ghost use Rattle.tautrobin.specs.Calls.{packed, wish_of, Kept, OpenCalled, SendC
 
 use answers::{Report, SeatNo};
 use image::{IMAGE_SIZE, decode, encode, encode_counts};
-use packet::{Header, in_range};
+use packet::Header;
 use seat::{Seat, Stepped, Wish, is_sound};
 
 // Refusals that the calls test before the library's step: an answer number, with three zeros.
@@ -92,7 +92,8 @@ pub fn tautrobin_open(n: u32, own: u32, state: &mut [u8], shelf: &mut [u8]) -> u
     }
     let n = n as u8;
     let own = SeatNo(own as u8);
-    if !in_range(Header { n, sender: own }) {
+    let header = Header { n, sender: own };
+    if !header.is_in_range() {
         return NO_SUCH_SEAT;
     }
     if state.len() != IMAGE_SIZE {

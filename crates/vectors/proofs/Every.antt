@@ -3,9 +3,12 @@ use Prim.Native.Nat.{ℕ, zero, suc, ◌+◌, ◌*◌, ◌≤◌, ◌<◌}
 use mathlib.Core.Path.{◌≡◌, refl, sym, ap, ap₂, ◌∙◌}
 use mathlib.Core.Bool.{Bool, true, false, ◌&&◌, and-false, and-true, and_assoc}
 use mathlib.Core.Logic.{⊎_elim}
-use native.Mathlib.Nat.{add-zero, add-suc, mul-zero, mul-suc, not-suc-le-zero, le_of_suc-le-suc, eq-or-lt_of_le, le_antisymm}
+use mathlib.Core.List.{List, [], ◌∷◌}
+use native.Mathlib.Nat.{add_comm, add-zero, add-suc, mul-zero, mul-suc, not-suc-le-zero, le_of_suc-le-suc, eq-or-lt_of_le, le_antisymm}
 use native.Mathlib.Numerals.{add-one}
 use native.Mathlib.Omega.{arith}
+use lib.ListN.{length, get_or}
+use Rattle.std.specs.List.{fold}
 use Rattle.vectors.specs.Vectors.{all}
 
 pub and_both : (a b : Bool) → (a && b) ≡ true → (a ≡ true) × (b ≡ true)
@@ -52,6 +55,22 @@ unfolding all
 all_parts w zero test = rw mul-zero
 all_parts w (suc n) test =
     rw mul-suc (ap (λ (t : Bool). t && all w (λ j. test (w * n + j))) (all_parts w n test) ∙ sym (all_split (w * n) w test))
+
+one_more : (k : ℕ) → 1 + k ≡ suc k
+one_more k = add_comm 1 k ∙ add-one k
+
+-- a fold over the entries of a list, without an early exit
+pub fold_is_all : {X : Type 0} (test : X → Bool) (d : X) (ok : Bool) (xs : List X)
+    → fold (λ (so_far : Bool) (x : X). so_far && test x) ok xs ≡ (ok && all (length xs) (λ k. test (get_or xs k d)))
+unfolding all
+fold_is_all test d ok [] = sym (and-true ok)
+fold_is_all test d ok (x ∷ xs) =
+    let entry : ℕ → Bool = λ k. test (get_or (x ∷ xs) k d) in
+    let rest : all (length xs) (λ k. entry (1 + k)) ≡ all (length xs) (λ k. test (get_or xs k d))
+    = all_same (length xs) (λ k. entry (1 + k)) (λ k. test (get_or xs k d)) (λ k h. ap entry (one_more k)) in
+    fold_is_all test d (ok && test x) xs
+    ∙ and_assoc ok (test x) (all (length xs) (λ k. test (get_or xs k d)))
+    ∙ ap (λ (b : Bool). ok && b) (ap (λ (b : Bool). test x && b) (sym rest) ∙ sym (all_split 1 (length xs) entry) ∙ ap (λ (n : ℕ). all n entry) (one_more (length xs)))
 
 -- the loop: after k turns the test is gathered over the first k indices
 pub record Gathered (n : ℕ) (test : ℕ → Bool) (k : ℕ) (ok : Bool) : Type 0 where

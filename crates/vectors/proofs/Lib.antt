@@ -1,5 +1,4 @@
 pub mod Every
 pub mod Vector
 pub mod Numbers
-pub mod Turned
 pub mod Tests

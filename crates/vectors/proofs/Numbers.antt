@@ -1,15 +1,21 @@
 -- Laws of numbers as bytes, over the width: lengths, what is read where something was written and the other way
 -- round, and the loops that read a number, store one, and write one piece after another.
-use Prim.Native.Nat.{ℕ, zero, suc, ◌+◌, ◌*◌, ◌/◌, ◌%◌, ◌^◌, ◌≤◌, ◌<◌}
+use Prim.Native.Nat.{ℕ, zero, suc, ◌+◌, ◌-◌, ◌*◌, ◌/◌, ◌%◌, ◌^◌, ◌≤◌, ◌<◌}
 use mathlib.Core.Path.{◌≡◌, refl, sym, ap, ap₂, ◌∙◌}
+use mathlib.Core.Bool.{Bool, ◌&&◌}
 use mathlib.Core.List.{List, [], ◌∷◌, ◌++◌, append_assoc, append-nil}
-use native.Mathlib.Nat.{add-zero, add-suc, suc-add, zero-add, add_comm, mul-zero, mul-suc, mul-le-mul_left, pow-suc, mod-one, mod-eq_of_lt, le_antisymm, le_of_suc-le-suc, not-suc-le-zero}
+use native.Mathlib.Nat.{add-zero, add-suc, suc-add, zero-add, add_comm, mul-zero, mul-suc, mul-le-mul_left, pow-suc, pow-succ', div-div-eq-div-mul, mod-one, mod-eq_of_lt, le_antisymm, le_of_suc-le-suc, not-suc-le-zero}
 use native.Mathlib.Numerals.{add-one}
+use native.Mathlib.Decide.{ℕ_discrete}
 use native.Mathlib.Omega.{arith}
 use lib.Arith.{mod-mul, digits_div, digits_mod}
+use lib.Dec.{eqb}
 use lib.ListN.{length, get_or, set, take, drop, length-append, get_or-append}
-use lib.Seq.{sets, length-sets, length-take-le, take-suc, take-add, take_at, drop_at, drop-drop, get_or-take, get_or-drop, get_or_at, get_or-append-add}
-use Rattle.vectors.specs.Vectors.{table}
+use lib.Seq.{sets, sets-eq, length-sets, length-take-le, take-suc, take-add, take_at, drop_at, drop-drop, get_or-take, get_or-drop, get_or_at, get_or-append-add}
+use borrow.Author.Tests.{eq-eqb, ne_eqb}
+use borrow.Rule.Slice.PartMut.{put_mid, Post-is}
+use Rattle.std.specs.Int.{byte_at, bytes_high_first}
+use Rattle.vectors.specs.Vectors.{all, table}
 use Rattle.vectors.specs.Bytes.{number_at, bytes_of, fields_of, Bytes}
 
 -- ---- lengths
@@ -29,6 +35,22 @@ length_fields_of w (x ∷ v) =
 pub length_fields : (w n : ℕ) (v : List ℕ) → n ≤ length v → length (fields_of w (take n v)) ≡ w * n
 length_fields w n v h = length_fields_of w (take n v) ∙ ap (λ (k : ℕ). w * k) (length-take-le n v h)
 
+-- ---- std's bytes of a number
+
+byte_above : (k x : ℕ) → byte_at (suc k) x ≡ byte_at k (x / 256)
+byte_above zero x = refl
+byte_above (suc k) x = sym (ap (λ (y : ℕ). y % 256) (div-div-eq-div-mul x 256 (256 ^ suc k) ∙ ap (λ (p : ℕ). x / p) (sym (pow-succ' 256 (suc k)))))
+
+byte_more : (w x : ℕ) → bytes_high_first (suc w) x ≡ bytes_high_first w (x / 256) ++ (x % 256 ∷ [])
+byte_more zero x = refl
+byte_more (suc w) x = ap₂ ◌∷◌ (byte_above w x) (byte_more w x)
+
+-- std writes the high byte first as we do
+pub high_first : (w x : ℕ) → bytes_high_first w x ≡ bytes_of w x
+unfolding bytes_of
+high_first zero x = refl
+high_first (suc w) x = byte_more w x ∙ ap (λ (l : List ℕ). l ++ (x % 256 ∷ [])) (high_first w (x / 256))
+
 -- ---- two bytes
 
 pub two_bytes : (s : List ℕ) (i : ℕ) → get_or s i 0 * 256 + get_or s (i + 1) 0 ≡ number_at 2 s i
@@ -46,6 +68,30 @@ unfolding number_at Bytes
 number_fits zero s i small = omega arith
 number_fits (suc w) s i small = omega (arith, pow-suc 256 w, number_fits w s i small, small (i + w))
 
+-- ---- zeros
+
+-- two numbers that are 0 together
+pub zero_together : (x y : ℕ) → (x ≡ 0 → y ≡ 0) → (y ≡ 0 → x ≡ 0) → eqb x 0 ≡ eqb y 0
+zero_together x y there back =
+    elim (ℕ_discrete x 0) [
+      | yes none ↦ eq-eqb x 0 none ∙ sym (eq-eqb y 0 (there none))
+      | no some ↦ ne_eqb x 0 some ∙ sym (ne_eqb y 0 (λ e. some (back e)))
+    ]
+
+-- a number is 0 where each of its bytes is
+digits_zero : (high low : ℕ) → eqb (high * 256 + low) 0 ≡ (eqb high 0 && eqb low 0)
+digits_zero high low =
+    elim (ℕ_discrete high 0) [
+      | yes none ↦ let alone : 0 * 256 + low ≡ low = omega arith in rw (none, alone)
+      | no some ↦ rw (ne_eqb high 0 some) (ne_eqb (high * 256 + low) 0 (λ e. some (omega arith)))
+    ]
+
+pub zero_number : (w : ℕ) (s : List ℕ) (i : ℕ) → eqb (number_at w s i) 0 ≡ all w (λ k. eqb (get_or s (i + k) 0) 0)
+unfolding number_at all
+zero_number zero s i = refl
+zero_number (suc w) s i =
+    digits_zero (number_at w s i) (get_or s (i + w) 0) ∙ ap (λ (t : Bool). t && eqb (get_or s (i + w) 0) 0) (zero_number w s i)
+
 -- ---- stores, one piece after another
 
 sets_append : (l : List ℕ) (i : ℕ) (vs ws : List ℕ) → sets l i (vs ++ ws) ≡ sets (sets l i vs) (i + length vs) ws
@@ -54,6 +100,14 @@ sets_append l i (a ∷ vs) ws = sets_append (set l i a) (suc i) vs ws ∙ rw (su
 
 pub sets_then : (l : List ℕ) (i : ℕ) (vs ws : List ℕ) (j : ℕ) → i + length vs ≡ j → sets (sets l i vs) j ws ≡ sets l i (vs ++ ws)
 sets_then l i vs ws j e = rw (← e) (sym (sets_append l i vs ws))
+
+-- a part of n places from i on that was lent and came back as vs
+pub stands_back : (l : List ℕ) (i n : ℕ) (vs now : List ℕ) → now ≡ vs → length vs ≡ n → i + n ≤ length l → put_mid i (i + n - i) l now ≡ sets l i vs
+stands_back l i n vs now e long inside =
+    ap (λ (rest : List ℕ). take i l ++ (now ++ rest)) (Post-is i (i + n) l (omega arith))
+    ∙ ap₂ (λ (x : List ℕ) (k : ℕ). take i l ++ (x ++ drop (i + k) l)) e (sym long)
+    ∙ sym (append_assoc (take i l) vs (drop (i + length vs) l))
+    ∙ sym (sets-eq vs l i (omega (arith, long)))
 
 -- the loop: after k turns what stands at i is `so_far k`
 pub record Put (l : List ℕ) (i n : ℕ) (so_far : ℕ → List ℕ) (k : ℕ) (now : List ℕ) : Type 0 where
@@ -86,12 +140,9 @@ fields_of_one : (w x : ℕ) → fields_of w (x ∷ []) ≡ bytes_of w x
 unfolding fields_of
 fields_of_one w x = append-nil (bytes_of w x)
 
--- one field more, and one byte more
+-- one field more
 pub fields_more : (w : ℕ) (v : List ℕ) (k : ℕ) → k < length v → fields_of w (take (k + 1) v) ≡ fields_of w (take k v) ++ bytes_of w (get_or v k 0)
 fields_more w v k h = rw (add-one, take-suc v k 0, fields_of_append, fields_of_one)
-
-pub bytes_more : (s : List ℕ) (k : ℕ) → k < length s → take (k + 1) s ≡ take k s ++ (get_or s k 0 ∷ [])
-bytes_more s k h = rw (add-one, take-suc s k 0)
 
 -- ---- written, then read
 
@@ -112,6 +163,14 @@ number_of_bytes (suc w) x =
     number_same w (high ++ (x % 256 ∷ [])) high 0 0 (λ b h. get_or-append high (x % 256 ∷ []) 0 (0 + b) (omega arith)) ∙ number_of_bytes w (x / 256) in
     let b : get_or (high ++ (x % 256 ∷ [])) (0 + w) 0 ≡ x % 256 = get_or_at high (x % 256) [] 0 (0 + w) (omega arith) in
     ap₂ (λ (p q : ℕ). p * 256 + q) a b ∙ sym (ap (λ (m : ℕ). x % m) (pow-suc 256 w) ∙ mod-mul x (pow_256 w) (omega arith))
+
+-- w bytes that were copied from place i on
+pub number_copied : (w : ℕ) (s bytes : List ℕ) (i : ℕ) → bytes ≡ take (i + w - i) (drop i s) → number_at w bytes 0 ≡ number_at w s i
+number_copied w s bytes i e = number_same w bytes s 0 i each
+  where
+    each : (b : ℕ) → b < w → get_or bytes (0 + b) 0 ≡ get_or s (i + b) 0
+    each b h =
+        ap (λ (l : List ℕ). get_or l (0 + b) 0) e ∙ rw (zero-add b) (get_or-take (i + w - i) (drop i s) b 0 (omega arith) ∙ get_or-drop i s b 0)
 
 -- the bytes of the field at k
 field_bytes : (w : ℕ) (v : List ℕ) (k : ℕ) → k < length v → take w (drop (w * k) (fields_of w v)) ≡ bytes_of w (get_or v k 0)

@@ -1,16 +1,18 @@
--- Laws of vectors: their entries, two that agree everywhere, and the loop that fills one.
-use Prim.Native.Nat.{ℕ, zero, suc, ◌+◌, ◌≤◌, ◌<◌}
+-- Laws of vectors: their entries, two that agree everywhere, and lists of a type of numbers.
+use Prim.Native.Nat.{ℕ, zero, suc, ◌+◌, ◌-◌, ◌≤◌, ◌<◌}
 use mathlib.Core.Path.{◌≡◌, refl, sym, ap, ◌∙◌}
-use mathlib.Core.List.{List, [], ◌∷◌}
+use mathlib.Core.List.{List, [], ◌∷◌, ◌++◌, map}
 use mathlib.Core.Bool.{cond}
 use mathlib.Core.Logic.{⊎_elim}
-use native.Mathlib.Nat.{not-suc-le-zero, le_of_suc-le-suc, eq-or-lt_of_le, le_antisymm}
+use native.Mathlib.Nat.{not-suc-le-zero, le_of_suc-le-suc, eq-or-lt_of_le}
 use native.Mathlib.Numerals.{add-one}
-use native.Mathlib.Decide.{ℕ_discrete, dec_lt}
+use native.Mathlib.Decide.{dec_lt}
 use native.Mathlib.Omega.{arith}
 use lib.Dec.{ltb}
-use lib.ListN.{length, get_or, set, take, replicate, length-set, length-append, get_or-append}
-use lib.Seq.{ext_get_or, get_or_at, get_or-take, get_or-set_same, get_or-set_other, length-take-le}
+use lib.ListN.{length, get_or, set, take, drop, replicate, length-drop, length-append, get_or-append}
+use lib.Seq.{ext_get_or, get_or-drop, get_or-append-add, get_or_at, get_or-take, length-take-le}
+use Rattle.std.proofs.lemmas.List.{map-set, get_or-map, get_or-replicate, length-map}
+use Rattle.std.proofs.lemmas.List.Edits.{fill_by_more}
 use borrow.Author.Tests.{lt-ltb, le-ltb}
 use Rattle.vectors.specs.Vectors.{table, vector}
 
@@ -55,35 +57,53 @@ is_vector n f v long below above = ext_get_or 0 v (vector n f) (long ∙ sym (le
           | no more ↦ above k (omega arith) b ∙ sym (vector_above n f k (omega arith) b)
         ]
 
--- the loop: after k turns the first k entries are in place, the others 0
-pub record Filled (n : ℕ) (f : ℕ → ℕ) (k : ℕ) (v : List ℕ) : Type 0 where
-  pub low : k ≤ n
-  pub is : v ≡ vector k f
+-- lists of a type whose members are numbers
+module _ {T : Type 0} (number : T → ℕ) (numbers : List T → List ℕ) (each : (v : List T) → numbers v ≡ map number v) where
+  pub length_numbers : (v : List T) → length (numbers v) ≡ length v
+  length_numbers v = ap length (each v) ∙ length-map v number
 
-module _ (n : ℕ) (f : ℕ → ℕ) where
-  pub filled_none : Filled n f 0 (replicate 16 0)
-  unfolding vector table
-  filled_none = record { low = omega arith; is = refl }
+  pub numbers_at : (v : List T) (k : ℕ) (d : T) → k < length v → get_or (numbers v) k 0 ≡ number (get_or v k d)
+  numbers_at v k d h = ap (λ (l : List ℕ). get_or l k 0) (each v) ∙ get_or-map number v k d 0 h
 
-  pub filled_more : (k : ℕ) (v next : List ℕ) → n ≤ 16 → Filled n f k v → k < n → next ≡ set v k (f k) → Filled n f (k + 1) next
-  filled_more k v next most so h e =
-      record { low = omega arith; is = e ∙ ap (λ (l : List ℕ). set l k (f k)) so.is ∙ is_vector (k + 1) f (set (vector k f) k (f k)) (simp (length-set, length_vector)) below above }
+  pub numbers_set : (v : List T) (k : ℕ) (x : T) → numbers (set v k x) ≡ set (numbers v) k (number x)
+  numbers_set v k x = each (set v k x) ∙ map-set number v k x ∙ ap (λ (l : List ℕ). set l k (number x)) (sym (each v))
+
+  -- one number more, in order
+  pub numbers_more : (f : ℕ → ℕ) (v : List T) (i : ℕ) (x : T) → i < length v → ((k : ℕ) → k < i → get_or (numbers v) k 0 ≡ f k) → number x ≡ f i
+      → (k : ℕ) → k < i + 1 → get_or (numbers (set v i x)) k 0 ≡ f k
+  numbers_more f v i x inside so_far e =
+      rw (numbers_set v i x, e) (fill_by_more f (numbers v) i 0 (rw length_numbers inside) so_far)
+
+  -- the first n of 16, and z above
+  pub numbers_below : (f : ℕ → ℕ) (z : T) (v : List T) (n : ℕ) → number z ≡ 0 → n ≤ 16 → length v ≡ n → ((k : ℕ) → k < n → get_or (numbers v) k 0 ≡ f k)
+      → numbers (v ++ drop n (replicate 16 z)) ≡ vector n f
+  numbers_below f z v n nothing most long each_is = is_vector n f (numbers whole) (length_numbers whole ∙ whole_long) below above
     where
-      inside : k < length (vector k f)
-      inside = rw length_vector (omega arith)
+      whole : List T
+      whole = v ++ drop n (replicate 16 z)
 
-      below : (j : ℕ) → j < k + 1 → j < 16 → get_or (set (vector k f) k (f k)) j 0 ≡ f j
-      below j l b =
-          elim (ℕ_discrete j k) [
-            | yes at ↦ rw at (get_or-set_same (vector k f) k (f k) 0 inside)
-            | no ne ↦ get_or-set_other (vector k f) k j (f k) 0 ne ∙ vector_below k f j (omega arith) b
-          ]
+      whole_long : length whole ≡ 16
+      whole_long = omega (arith, length-append v (drop n (replicate 16 z)), length-drop n (replicate 16 z))
 
-      above : (j : ℕ) → k + 1 ≤ j → j < 16 → get_or (set (vector k f) k (f k)) j 0 ≡ 0
-      above j l b = get_or-set_other (vector k f) k j (f k) 0 (λ at. omega arith) ∙ vector_above k f j (omega arith) b
+      below : (k : ℕ) → k < n → k < 16 → get_or (numbers whole) k 0 ≡ f k
+      below k h b =
+          numbers_at whole k z (omega (arith, whole_long))
+          ∙ ap number (get_or-append v (drop n (replicate 16 z)) z k (omega arith))
+          ∙ sym (numbers_at v k z (omega arith))
+          ∙ each_is k h
 
-  pub filled_all : (k : ℕ) (v : List ℕ) → Filled n f k v → n ≤ k → v ≡ vector n f
-  filled_all k v so h = so.is ∙ rw (le_antisymm so.low h)
+      above : (k : ℕ) → n ≤ k → k < 16 → get_or (numbers whole) k 0 ≡ 0
+      above k h b =
+          let at : k ≡ length v + (k - n) = omega arith in
+          let here : n + (k - n) ≡ k = omega arith in
+          numbers_at whole k z (omega (arith, whole_long))
+          ∙ ap number
+          (ap (λ (i : ℕ). get_or whole i z) at
+          ∙ get_or-append-add v (drop n (replicate 16 z)) (k - n) z
+          ∙ get_or-drop n (replicate 16 z) (k - n) z
+          ∙ ap (λ (i : ℕ). get_or (replicate 16 z) i z) here
+          ∙ get_or-replicate 16 k z z b)
+          ∙ nothing
 
 -- the first n entries of a vector are the table
 pub take_vector : (n : ℕ) (f : ℕ → ℕ) → n ≤ 16 → take n (vector n f) ≡ table n f

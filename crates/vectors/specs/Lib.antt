@@ -1,3 +1,2 @@
 pub mod Vectors
 pub mod Bytes
-pub mod Turned

@@ -1,71 +1,55 @@
-// Vectors of 16 numbers, one for each seat, and tests over every entry. The loops have no early exit, so that the
-// compiler makes wide code of them.
+// Vectors of 16 numbers, one for each seat, and tests over every entry. The tests are folds with no early exit, so that
+// the compiler makes wide code of them.
 #![tactic(auto)]
 
 pub mod bytes;
-mod turning;
 
-ghost use Rattle.std.specs.Prelude.{◌≡◌, ◌≤◌, max};
+ghost use Rattle.std.specs.Prelude.{◌≡◌, ◌≤◌, ◌<◌};
 ghost use Rattle.vectors.specs.Vectors.{within, same, zero_above, maxes};
+
+use bytes::Number;
+use std::array;
 
 // Whether every entry of a is at most b's.
 pub fn is_within(a: [u16; 16], b: [u16; 16]) -> bool
     ensures { result ≡ within a b }
 {
-    let mut ok = true;
-    for k in 0..16 {
-        ok = ok & (a[k] <= b[k]);
-    }
-    ok
+    a.iter()
+        .zip(b.iter())
+        .fold(true, |ok, (x, y)| ok & (*x <= *y))
 }
 
 // Whether every entry of a is b's.
+#[tactic(auto, using(crate::proofs::Tests::same_decided))]
 pub fn is_same(a: [u16; 16], b: [u16; 16]) -> bool
     ensures { result ≡ same a b }
 {
-    let mut ok = true;
-    for k in 0..16 {
-        ok = ok & (a[k] == b[k]);
-    }
-    ok
+    a == b
 }
 
 // Whether every entry above n is 0. The callers have found n to be in range.
-pub fn is_zero_above(n: usize, v: [u16; 16]) -> bool
+pub fn is_zero_above<T: Number>(n: usize, v: [T; 16]) -> bool
     requires { n ≤ 16 }
-    ensures { result ≡ zero_above n v }
+    ensures { result ≡ zero_above n (T.numbers v) }
 {
-    let mut above: u16 = 0;
-    for k in n..16 {
-        above = above | v[k];
-    }
-    above == 0
+    let v = &v[..];
+    v[n..].iter().fold(true, |ok, x| ok & x.is_zero())
 }
 
 // Whether every word is 0.
 pub fn is_zero(words: [u64; 16]) -> bool
     ensures { result ≡ zero_above 0 words }
 {
-    let mut gathered: u64 = 0;
-    for k in 0..16 {
-        gathered = gathered | words[k];
-    }
-    gathered == 0
-}
-
-fn larger(a: u16, b: u16) -> u16
-    ensures { result ≡ max a b }
-{
-    if a < b { b } else { a }
+    is_zero_above(0, words)
 }
 
 // The entrywise maximum.
 pub fn max_of(a: [u16; 16], b: [u16; 16]) -> [u16; 16]
     ensures { result ≡ maxes a b }
 {
-    let mut v = [0u16; 16];
-    for k in 0..16 {
-        v[k] = larger(a[k], b[k]);
-    }
-    v
+    array::from_fn(
+        |k: usize| -> u16
+            requires { k < 16 }
+        { a[k].max(b[k]) },
+    )
 }

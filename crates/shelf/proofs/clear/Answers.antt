@@ -1,10 +1,12 @@
 -- `clear` meets its contract.
-use Rattle.std.proofs.Common.{sym, ◌∙◌}
-use Rattle.shelf.specs.Shelf.{free_slot}
-use Rattle.shelf.proofs.Slots.{laid_is_stored}
-use Rattle.shelf.proofs.Holding.{length_free_slot}
+use Rattle.std.proofs.Common.{ℕ, length, replicate, ap, ◌∙◌}
+use Rattle.shelf.specs.Shelf.{laid, free_slot}
+use Rattle.shelf.proofs.Slots.{slot_lent, slot_back, length_slot_at}
 use Rattle.shelf.proofs.clear.Goals as goal
 
 pub returns : goal.returns
 unfolding free_slot
-returns c = c.put_zeros.ensures ∙ sym (laid_is_stored c.args.shelf.now c.args.i free_slot c.requires length_free_slot)
+returns c =
+    let shelf = c.args.shelf.now in
+    let long = ap length (slot_lent shelf c.args.i) ∙ length_slot_at _ _ c.requires in
+    slot_back shelf c.args.i _ ∙ ap (laid shelf c.args.i) (c.fill.ensures.after (λ y e. e) ∙ ap (λ (n : ℕ). replicate n 0) long)

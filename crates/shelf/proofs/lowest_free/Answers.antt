@@ -1,22 +1,17 @@
 -- `lowest_free` meets its contract.
-use Rattle.std.proofs.Common.{length, sym, ap, ◌∙◌, below_more, arith}
-use Rattle.shelf.specs.Shelf.{all_zero}
-use Rattle.shelf.proofs.Lowest.{only_lowest}
+use Rattle.std.proofs.Common.{◌≡◌, true, false, rules, tests}
+use Rattle.std.proofs.lemmas.Iterator.{first_from_Range, serves_from_Range}
+use Rattle.shelf.specs.Shelf.{is_free}
+use Rattle.shelf.proofs.Lowest.{found_is_lowest}
 use Rattle.shelf.proofs.Slots.{length_slot_at}
 use Rattle.shelf.proofs.lowest_free.Goals as goal
 
-pub is_free-requires : goal.is_free-requires
-is_free-requires c = ap length c.slot.ensures ∙ length_slot_at _ _ (omega arith)
-
-pub returns-then-is_free : goal.returns-then-is_free
-returns-then-is_free c =
-    let tested = sym (c.is_free.ensures ∙ ap all_zero c.slot.ensures) in
-    only_lowest _ _ _ (record { most = omega arith; fails_below = c.loop-i.invariant.1; holds = λ h. tested ∙ c.if-is_free.true })
-
-pub loop-i-preserved : goal.loop-i-preserved
-loop-i-preserved c =
-    let tested = sym (c.is_free.ensures ∙ ap all_zero c.slot.ensures) in
-    (omega arith, below_more _ _ c.loop-i.invariant.1 (tested ∙ c.if-is_free.false))
+pub find-requires-clause-callable : goal.find-requires-clause-callable
+find-requires-clause-callable c = serves_from_Range (λ x q k. search (rules, tests)) (λ x low high. search (rules, length_slot_at))
 
 pub returns : goal.returns
-returns c = only_lowest _ _ _ (record { most = omega arith; fails_below = λ k h. c.loop-i.invariant.1 k (omega arith); holds = λ h. absurd (omega arith) })
+returns c =
+    found_is_lowest _ _ _
+    (first_from_Range _ _ _ _ (λ i. is_free c.args.shelf.now i ≡ true) (λ i. is_free c.args.shelf.now i ≡ false) c.find.ensures.ran
+    (λ x q k. search (rules, tests))
+    (λ x q k. (search rules, search (rules, tests))))

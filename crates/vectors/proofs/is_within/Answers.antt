@@ -1,15 +1,15 @@
 -- `is_within` meets its contract.
-use Rattle.std.proofs.Common.{refl, arith}
-use Rattle.vectors.specs.Vectors.{within}
-use Rattle.vectors.proofs.Every.{gathered_none, gathered_more, gathered_all}
+use Rattle.std.proofs.Common.{◌≡◌, ◌&&◌, ◌∙◌, Bool, true, ℕ, leb, length, rules}
+use Rattle.std.proofs.lemmas.Iterator.{YieldsList-from_slice, YieldsList-from_zip}
+use Rattle.std.proofs.lemmas.Iterator.Consumers.{fold_from_yields_List}
+use Rattle.vectors.proofs.Tests.{within_folded}
 use Rattle.vectors.proofs.is_within.Goals as goal
 
-pub loop-k-init : goal.loop-k-init
-loop-k-init c = gathered_none _ _
-
-pub loop-k-preserved : goal.loop-k-preserved
-loop-k-preserved c = gathered_more _ _ _ _ _ c.loop-k.invariant (omega arith) refl
-
 pub returns : goal.returns
-unfolding within
-returns c = gathered_all _ _ _ _ c.loop-k.invariant (omega arith)
+returns c =
+    let a_long : length c.args.a ≡ 16 = search rules in
+    let b_long : length c.args.b ≡ 16 = search rules in
+    fold_from_yields_List _ (λ (ok : Bool) (p : ℕ × ℕ). ok && leb p.0 p.1) true _ c.fold.ensures.ran
+    (YieldsList-from_zip (YieldsList-from_slice c.args.a (search rules)) (YieldsList-from_slice c.args.b (search rules)))
+    (λ a x b q called. search rules)
+    ∙ within_folded c.args.a c.args.b a_long b_long

@@ -1,15 +1,11 @@
 -- `max_of` meets its contract.
-use Rattle.std.proofs.Common.{arith}
+use Rattle.std.proofs.Common.{ℕ, max, get_or, rules, arith}
 use Rattle.vectors.specs.Vectors.{maxes}
-use Rattle.vectors.proofs.Vector.{filled_none, filled_more, filled_all}
+use Rattle.vectors.proofs.Vector.{is_vector}
 use Rattle.vectors.proofs.max_of.Goals as goal
-
-pub loop-k-init : goal.loop-k-init
-loop-k-init c = filled_none _ _
-
-pub loop-k-preserved : goal.loop-k-preserved
-loop-k-preserved c = filled_more _ _ _ _ _ (omega arith) c.loop-k.invariant (omega arith) (rw c.larger.ensures)
 
 pub returns : goal.returns
 unfolding maxes
-returns c = filled_all _ _ _ _ c.loop-k.invariant (omega arith)
+returns c =
+    let f : ℕ → ℕ = λ k. max (get_or c.args.a k 0) (get_or c.args.b k 0) in
+    is_vector 16 f _ c.from_fn.ensures.items.long (λ k h b. let called = c.from_fn.ensures.items.at k 0 h in search rules) (λ k h b. omega arith)

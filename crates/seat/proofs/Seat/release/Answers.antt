@@ -1,4 +1,4 @@
--- `release` meets its contract.
+-- `Seat::release` meets its contract.
 use Rattle.std.proofs.Common.{refl, sym, ◌∙◌}
 use borrow.Author.Tests.{not-true, not-false}
 use lib.Arith.{lt_of_le-ne}
@@ -7,8 +7,7 @@ use Rattle.seat.proofs.ReleaseAnswers.{not_sound_answers_10, none_ready_answers_
 use Rattle.seat.proofs.Seat.release.Goals as goal
 
 pub returns-then-not-stock : goal.returns-then-not-stock
-returns-then-not-stock c =
-    refused_release _ _ _ _ _ (not_sound_answers_10 _ _ _ (sym c.look_over-stock.ensures.sound_is ∙ not-true _ c.if-not-stock.true)) c.refuse.ensures.0 c.refuse.ensures.1
+returns-then-not-stock c = rw c.refuse.ensures (refused_release _ _ _ _ (not_sound_answers_10 _ _ _ (sym c.look_over-stock.ensures.sound_is ∙ not-true _ c.if-not-stock.true)))
 
 pub returns-then-first-shelf : goal.returns-then-first-shelf
 returns-then-first-shelf c =

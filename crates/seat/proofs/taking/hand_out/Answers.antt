@@ -17,11 +17,17 @@ pub held_in-packet-requires : goal.held_in-packet-requires
 held_in-packet-requires c =
     (ap length c.slot.ensures ∙ length_slot_at _ _ c.requires.chosen.there, rw c.slot.ensures c.requires.is_well_formed)
 
-pub edit_in-edit-requires : goal.edit_in-edit-requires
-edit_in-edit-requires c =
+pub edit_in-edit-requires-clause-body : goal.edit_in-edit-requires-clause-body
+edit_in-edit-requires-clause-body c =
     let z = chosen_sizes _ _ _ _ _ _ c.requires in
     let l = ap length (c.held_in-packet.ensures ∙ ap packet_in c.slot.ensures) in
-    (z.sender_low, z.sender_high, z.seats_high, omega (arith, z), omega (arith, z))
+    omega (arith, z)
+
+pub edit_in-edit-requires-clause-short : goal.edit_in-edit-requires-clause-short
+edit_in-edit-requires-clause-short c =
+    let z = chosen_sizes _ _ _ _ _ _ c.requires in
+    let l = ap length (c.held_in-packet.ensures ∙ ap packet_in c.slot.ensures) in
+    omega (arith, z)
 
 pub slice_bounds-body-count : goal.slice_bounds-body-count
 slice_bounds-body-count c =
@@ -39,22 +45,23 @@ lent heading packet other e = take_all _ _ (le_of_eq (length-drop _ packet)) ∙
 
 pub returns-then-out-body : goal.returns-then-out-body
 returns-then-out-body c =
-    let is = lent c.args.heading.n _ _ (c.held_in-packet.ensures ∙ ap packet_in c.slot.ensures) ∙ sym (chosen_body _ _ _ _ _ _ c.requires) in
-    refused_release _ _ _ _ _ (no_room_answers_13 _ _ _ _ c.requires.chosen (omega (arith, ap length is, c.if-out-body.true))) c.refuse.ensures.0 c.refuse.ensures.1
+    let is = lent c.args.message.heading.n _ _ (c.held_in-packet.ensures ∙ ap packet_in c.slot.ensures) ∙ sym (chosen_body _ _ _ _ _ _ c.requires) in
+    rw c.refuse.ensures
+    (refused_release _ _ _ _ (no_room_answers_13 _ _ _ _ c.requires.chosen (omega (arith, ap length is, c.if-out-body.true))))
 
 pub returns-then-is_barrier_above_past : goal.returns-then-is_barrier_above_past
 returns-then-is_barrier_above_past c =
-    let is = lent c.args.heading.n _ _ (c.held_in-packet.ensures ∙ ap packet_in c.slot.ensures) ∙ sym (chosen_body _ _ _ _ _ _ c.requires) in
+    let is = lent c.args.message.heading.n _ _ (c.held_in-packet.ensures ∙ ap packet_in c.slot.ensures) ∙ sym (chosen_body _ _ _ _ _ _ c.requires) in
     let r = c.requires in
     let above = c.is_barrier_above_past.ensures ∙ (λ k. barrier_above_past c.args.seat (r.heading_is k) (r.past_is k) (r.barrier_is k)) in
-    refused_release _ _ _ _ _
-    (above_answers_23 _ _ _ _ r.chosen (omega (arith, ap length is, c.if-out-body.false)) (sym above ∙ c.if-is_barrier_above_past.true))
-    c.refuse-then-is_barrier_above_past.ensures.0 c.refuse-then-is_barrier_above_past.ensures.1
+    rw c.refuse-then-is_barrier_above_past.ensures
+    (refused_release _ _ _ _
+    (above_answers_23 _ _ _ _ r.chosen (omega (arith, ap length is, c.if-out-body.false)) (sym above ∙ c.if-is_barrier_above_past.true)))
 
-pub hand_over-next-requires : goal.hand_over-next-requires
-hand_over-next-requires c =
-    let fits : Fits w16 (get_or c.args.seat.past (c.args.heading.sender.0 - 1) 0) = search rules in
-    let most : get_or c.args.seat.past (c.args.heading.sender.0 - 1) 0 ≤ 65535 = omega (arith, fits) in
+pub hand_over-requires : goal.hand_over-requires
+hand_over-requires c =
+    let fits : Fits w16 (get_or c.args.seat.past (c.args.message.heading.sender.0 - 1) 0) = search rules in
+    let most : get_or c.args.seat.past (c.args.message.heading.sender.0 - 1) 0 ≤ 65535 = omega (arith, fits) in
     chosen_is_due _ _ _ _ _ _ c.requires most
 
 pub returns : goal.returns
@@ -62,11 +69,11 @@ returns c =
     let a = c.args in
     let r = c.requires in
     let packet_is = c.held_in-packet.ensures ∙ ap packet_in c.slot.ensures in
-    let is = lent a.heading.n _ _ packet_is ∙ sym (chosen_body _ _ _ _ _ _ r) in
+    let is = lent a.message.heading.n _ _ packet_is ∙ sym (chosen_body _ _ _ _ _ _ r) in
     let above = c.is_barrier_above_past.ensures ∙ (λ k. barrier_above_past a.seat (r.heading_is k) (r.past_is k) (r.barrier_is k)) in
     let enough : length (body_of (packet_at a.shelf.now a.i)) ≤ length a.out.now = omega (arith, ap length is, c.if-out-body.false) in
     done_release _ _ _ _ r.chosen _ _ _ _ (releasing_answers_0 _ _ _ _ r.chosen enough (sym above ∙ c.if-is_barrier_above_past.false))
-    (c.edit_in-edit.ensures ∙ ap (λ (p : List ℕ). carried a.heading a.past (length p)) packet_is ∙ chosen_edit _ _ _ _ _ _ r)
-    (c.hand_over-next.ensures ∙ (λ k. hand_over a.seat (r.heading_is k) (r.past_is k) (r.barrier_is k)))
+    (c.edit_in-edit.ensures ∙ ap (λ (p : List ℕ). carried a.message.heading a.message.past (length p)) packet_is ∙ chosen_edit _ _ _ _ _ _ r)
+    (c.hand_over.ensures ∙ (λ k. hand_over a.seat (r.heading_is k) (r.past_is k) (r.barrier_is k)))
     c.clear.ensures
     (body_at_start (body_of (packet_at a.shelf.now a.i)) a.out.now _ enough (c.put_bytes.ensures ∙ ap (sets a.out.now 0) is))

@@ -6,6 +6,6 @@ use Rattle.tautrobin.proofs.image.decode.Goals as goal
 pub returns : goal.returns
 returns c =
     let first = c.type_inv.image 0 in (
-      decoded_is _ _ _ _ _ c.fields-past.ensures c.fields-barrier.ensures c.fields-run.ensures c.wide_fields-ahead.ensures,
+      decoded_is _ _ _ _ _ c.fields-past.ensures c.fields-barrier.ensures c.fields-run.ensures c.fields-ahead.ensures,
       record { seats_low = omega arith; seats_high = omega (arith, first); own_low = omega arith; own_high = omega arith },
     )

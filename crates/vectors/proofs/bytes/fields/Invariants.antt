@@ -1,7 +1,8 @@
-use Rattle.std.proofs.Common.{◌+◌, ◌*◌}
+use Rattle.std.proofs.Common.{◌≡◌, ◌+◌, ◌*◌, ◌<◌, ℕ, get_or}
 use Rattle.vectors.specs.Bytes.{number_at}
-use Rattle.vectors.proofs.Vector.{Filled}
 use Rattle.vectors.proofs.bytes.fields.Given as goal
 
 abbrev pub invariant-loop-k : goal.invariant-loop-k
-invariant-loop-k l = Filled l.n (λ j. number_at 2 l.s (l.i + 2 * j)) l.k l.v
+invariant-loop-k g l =
+    let t = g.T.Number in
+    (j : ℕ) → j < l.k → get_or (t.numbers l.below) j 0 ≡ number_at t.WIDTH l.s (l.i + t.WIDTH * j)

@@ -1,7 +1,7 @@
-use Rattle.std.proofs.Common.{take}
+use Rattle.std.proofs.Common.{length, take}
 use Rattle.vectors.specs.Bytes.{fields_of}
 use Rattle.vectors.proofs.Numbers.{Put}
 use Rattle.vectors.proofs.bytes.put_fields.Given as goal
 
 abbrev pub invariant-loop-k : goal.invariant-loop-k
-invariant-loop-k l = Put l.initial.out l.i l.n (λ j. fields_of 2 (take j l.v)) l.k l.out
+invariant-loop-k g l = let t = g.T.Number in Put l.initial.out l.i (length l.v) (λ j. fields_of t.WIDTH (take j (t.numbers l.v))) l.k l.out

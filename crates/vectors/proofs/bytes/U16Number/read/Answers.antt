@@ -1,0 +1,11 @@
+-- A number of 2 bytes is read.
+use Rattle.std.proofs.Common.{◌≡◌, ◌∙◌, arith}
+use Rattle.vectors.specs.Bytes.{number_at}
+use Rattle.vectors.proofs.Numbers.{number_copied}
+use Rattle.vectors.proofs.bytes.U16Number.read.Goals as goal
+
+pub returns : goal.returns
+unfolding number_at
+returns c =
+    let read : c.from_be_bytes.result ≡ number_at 2 c.copy_from_slice.new.self 0 = omega (arith, c.from_be_bytes.ensures) in
+    read ∙ number_copied 2 c.args.s.now _ c.args.i c.copy_from_slice.ensures.after
