@@ -25,6 +25,13 @@ no_seat_above n own above =
       | false ↦ λ e. e
     ] refl
 
+-- nor are numbers that a byte cannot hold
+pub no_byte_of_seats : (n own : ℕ) → (n < 256 → ⊥) → in_range (record { n = n; sender = seat_no own }) ≡ false
+no_byte_of_seats n own above = no_seat_above n own (λ low within. omega (arith, above))
+
+pub no_byte_of_own : (n own : ℕ) → (own < 256 → ⊥) → in_range (record { n = n; sender = seat_no own }) ≡ false
+no_byte_of_own n own above = no_seat_above n own (λ low within. omega (arith, above))
+
 -- an opened seat is in range
 pub stepped_open_is_numbered : (n own : ℕ) (shelf : List ℕ) (stepped : Stepped) (after : List ℕ) → in_range (record { n = n; sender = seat_no own }) ≡ true
     → OpenedAs n (seat_no own) shelf stepped after → (report stepped.answer).answer ≤ 1 → Numbered stepped.seat
@@ -42,9 +49,6 @@ module _ (n own : ℕ) (image shelf : List ℕ) where
   pub no_such_seat_is_20 : in_range (record { n = n; sender = seat_no own }) ≡ false → open_report n own image shelf ≡ bare 20
   unfolding open_report
   no_such_seat_is_20 out = refuses 20 _ _ _ (rw out)
-
-  pub own_number_above_is_20 : 255 < own → open_report n own image shelf ≡ bare 20
-  own_number_above_is_20 above = no_such_seat_is_20 (no_seat_above n own (λ low within. omega arith))
 
   module _ (range : in_range (record { n = n; sender = seat_no own }) ≡ true) where
     pub open_wrong_length_is_10 : (length image ≡ image_size → ⊥) → open_report n own image shelf ≡ bare 10

@@ -13,6 +13,8 @@ use Rattle.seat.specs.HandingOver.{hand_over}
 use Rattle.seat.specs.Arriving.{heading_of, arrive_answer, shelf_after}
 use Rattle.seat.specs.Releasing.{chosen_packet, release_answer, shelf_after_release}
 use Rattle.tautrobin.specs.Image.{image_size, decoded, encoded}
+use Rattle.tautrobin.specs.declared.BadCall.{BadCall}
+use Rattle.tautrobin.specs.declared.BadCall.TheVariants.{NotSound, NoSuchSeat, NoSuchKind}
 use Rattle.seat.specs.declared.Seat.{Seat}
 use Rattle.seat.specs.declared.Stepped.{Stepped}
 use Rattle.seat.specs.declared.Wish.{Wish}
@@ -45,6 +47,12 @@ first_report ((number, false) ∷ rest) step = first_report rest step
 -- Image, shelf and output are rewritten only on 0 and 1.
 unfoldable pub rewritten : Report → List ℕ → List ℕ → List ℕ
 rewritten told next before = cond (leb told.answer 1) next before
+
+-- The numbers of what the calls refuse before the library's step.
+abbrev pub bad_call_number : BadCall → ℕ
+bad_call_number NotSound = 10
+bad_call_number NoSuchSeat = 20
+bad_call_number NoSuchKind = 22
 
 -- The image's length is wrong.
 abbrev pub wrong_length : List ℕ → Bool

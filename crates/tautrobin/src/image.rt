@@ -1,6 +1,8 @@
 // The state as it crosses to C: an image of 225 bytes (document 01, "For the package, which is written in C").
 ghost use Rattle.std.specs.Prelude.{◌≡◌, length, set};
-ghost use Rattle.tautrobin.specs.Image.{image_size, decoded, encoded, numbers_byte, Recounted, Numbered};
+ghost use Rattle.std.proofs.lemmas.List.Edits.{sets};
+ghost use Rattle.vectors.specs.Bytes.{fields_of};
+ghost use Rattle.tautrobin.specs.Image.{image_size, past_at, barrier_at, decoded, encoded, numbers_byte, Recounted, Numbered};
 
 use answers::SeatNo;
 use seat::Seat;
@@ -17,7 +19,8 @@ const RUN_AT: usize = 65;
 
 const AHEAD_AT: usize = 97;
 
-// The state that an image says. The callers have found its length to be right.
+// The state that an image says. The callers have found its length to be right. An Option of the state in place of that
+// misses the speed bar: it is copied once more.
 pub fn decode(image: &[u8]) -> Seat
     requires { length image.now ≡ image_size }
     ensures { (result ≡ decoded image.now) × Numbered result }
@@ -46,16 +49,22 @@ fn put_numbers(seat: Seat, image: &mut [u8])
     image[0] = (seat.n - 1) * 16 + (seat.own.0 - 1);
 }
 
+// Past and barrier go to their places.
+fn put_counts(seat: Seat, image: &mut [u8])
+    requires { length image.old ≡ image_size }
+    ensures { image.new ≡ sets (sets image.old past_at (fields_of 2 seat.past)) barrier_at (fields_of 2 seat.barrier) }
+{
+    put_fields(image, PAST_AT, &seat.past);
+    put_fields(image, BARRIER_AT, &seat.barrier);
+}
+
 // The image of a state that is another than the image's in past and barrier alone. The caller has found its length to be
 // right.
 pub fn encode_counts(seat: Seat, image: &mut [u8])
     requires { (length image.old ≡ image_size) × Recounted seat (decoded image.old) }
     ensures { image.new ≡ encoded seat }
 {
-    let past = seat.past;
-    let barrier = seat.barrier;
-    put_fields(image, PAST_AT, &past);
-    put_fields(image, BARRIER_AT, &barrier);
+    put_counts(seat, image);
 }
 
 // The image of a state. The callers have found its length to be right, and n and own number to be in range.
@@ -63,13 +72,8 @@ pub fn encode(seat: Seat, image: &mut [u8])
     requires { (length image.old ≡ image_size) × Numbered seat }
     ensures { image.new ≡ encoded seat }
 {
-    let past = seat.past;
-    let barrier = seat.barrier;
-    let run = seat.run;
-    let ahead = seat.ahead;
     put_numbers(seat, image);
-    put_fields(image, PAST_AT, &past);
-    put_fields(image, BARRIER_AT, &barrier);
-    put_fields(image, RUN_AT, &run);
-    put_fields(image, AHEAD_AT, &ahead);
+    put_counts(seat, image);
+    put_fields(image, RUN_AT, &seat.run);
+    put_fields(image, AHEAD_AT, &seat.ahead);
 }

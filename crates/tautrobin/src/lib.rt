@@ -4,25 +4,33 @@
 
 mod image;
 
-ghost use Rattle.std.specs.Prelude.{◌≡◌, ◌≤◌, length};
-ghost use Rattle.answers.specs.Answers.{report};
-ghost use Rattle.tautrobin.specs.Image.{image_size, decoded, Recounted, Numbered};
-ghost use Rattle.tautrobin.specs.Calls.{packed, wish_of, Kept, OpenCalled, SendCalled, ArriveCalled, ReleaseCalled};
+ghost use Rattle.std.specs.Prelude.{◌≡◌, ◌≤◌, ◌<◌, true, false, MatchOption};
+ghost use Rattle.answers.specs.Answers.{seat_no, report};
+ghost use Rattle.packet.specs.Writing.{in_range};
+ghost use Rattle.tautrobin.specs.Image.{encoded};
+ghost use Rattle.tautrobin.specs.Calls.{packed, kind_most, wish_of, bad_call_number, Kept, OpenCalled, SendCalled, ArriveCalled, ReleaseCalled};
 
 use answers::{Report, SeatNo};
 use image::{IMAGE_SIZE, decode, encode, encode_counts};
 use packet::Header;
 use seat::{Seat, Stepped, Wish, is_sound};
 
-// Refusals that the calls test before the library's step: an answer number, with three zeros.
-const NOT_SOUND: u64 = 10;
+// What the calls refuse before the library's step. The four calls keep their type for C, so that it is told by its number.
+#[derive(Clone, Copy)]
+enum BadCall {
+    NotSound = 10,
+    NoSuchSeat = 20,
+    NoSuchKind = 22,
+}
 
-const NO_SUCH_SEAT: u64 = 20;
-
-const NO_SUCH_KIND: u64 = 22;
-
-// The highest number of a kind.
-const KIND_MOST: u32 = 2;
+impl BadCall {
+    // The whole answer: its number, and three zeros.
+    fn number(self) -> u64
+        ensures { result ≡ bad_call_number self }
+    {
+        self as u64
+    }
+}
 
 // The answer as one number: bits 0 to 7 the answer number, 8 to 15 sender, 16 to 31 sequence number, 32 to 47 length.
 fn pack(told: Report) -> u64
@@ -35,72 +43,58 @@ fn pack(told: Report) -> u64
     answer + 256 * sender + 65536 * number + 4294967296 * length
 }
 
-// The kind that is wished for: 0 is ordinary, 1 causal and 2 usual.
+// The kind that is wished for, where there is one of this number.
 #[tactic(auto, unfolding(crate::specs::Calls::wish_of))]
-fn wish_of(kind: u32) -> Wish
-    ensures { result ≡ wish_of kind }
+fn wish_of(kind: u32) -> Option<Wish>
+    ensures { MatchOption result (kind_most < kind) (λ wish. (kind ≤ kind_most) × (wish ≡ wish_of kind)) }
 {
     match kind {
-        0 => Wish::Ordinary,
-        1 => Wish::Causal,
-        _ => Wish::Usual,
+        0 => Some(Wish::Ordinary),
+        1 => Some(Wish::Causal),
+        2 => Some(Wish::Usual),
+        _ => None,
     }
 }
 
-// The answer of a step; on 0 and 1 the next state goes to the image. The callers have found the image's length to be right.
-#[tactic(auto, using(crate::proofs::Reporting::left_alone, crate::proofs::Reporting::goes_in))]
-fn keep(stepped: Stepped, state: &mut [u8]) -> u64
-    requires { (length state.old ≡ image_size) × ((report stepped.answer).answer ≤ 1 → Numbered stepped.seat) }
-    ensures { Kept stepped state.old result state.new }
+// The seat of these numbers, where there is one.
+#[tactic(auto, using(crate::proofs::OpenCall::no_byte_of_seats, crate::proofs::OpenCall::no_byte_of_own))]
+fn seat_numbered(n: u32, own: u32) -> Option<Header>
+    ensures { MatchOption result (in_range (record { n = n; sender = seat_no own }) ≡ false) (λ seat. (seat ≡ record { n = n; sender = seat_no own }) × (in_range seat ≡ true)) }
 {
-    let answer = stepped.answer;
-    let seat = stepped.seat;
-    let told = answer.report();
-    if 1 < told.answer {
-        return pack(told);
-    }
-    encode(seat, state);
-    pack(told)
+    let n = u8::try_from(n).ok()?;
+    let sender = SeatNo(u8::try_from(own).ok()?);
+    let seat = Header { n, sender };
+    seat.is_in_range().then_some(seat)
 }
 
-// The same, where the next state is another than the image's in past and barrier alone.
+// The answer of a step; on 0 and 1 (`rewritten` speaks of the number) `put` puts the next state into the image.
 #[tactic(auto, using(crate::proofs::Reporting::left_alone, crate::proofs::Reporting::goes_in))]
-fn keep_counts(stepped: Stepped, state: &mut [u8]) -> u64
-    requires { (length state.old ≡ image_size) × Recounted stepped.seat (decoded state.old) }
+fn keep<F: FnOnce(Seat, &mut [u8])>(stepped: Stepped, state: &mut [u8], put: F) -> u64
+    requires can { (image : _) → image.now ≡ state.old → (report stepped.answer).answer ≤ 1 → F.pre put stepped.seat image }
+    requires puts { (image left : _) → image.now ≡ state.old → F.post put stepped.seat image tt left → left.now ≡ encoded stepped.seat }
     ensures { Kept stepped state.old result state.new }
 {
-    let answer = stepped.answer;
-    let seat = stepped.seat;
-    let told = answer.report();
+    let told = stepped.answer.report();
     if told.answer <= 1 {
-        encode_counts(seat, state);
-        return pack(told);
+        put(stepped.seat, state);
     }
     pack(told)
 }
+
+// Each call tests the image's length itself: of a step in a closure that is not run, nothing tells that the shelf and the
+// output that it holds stay as they were.
 
 // Opens a seat, and zeroes its shelf.
-#[tactic(auto, using(crate::proofs::OpenCall::own_number_above_is_20, crate::proofs::Reporting::packed_bare, crate::proofs::Reporting::left_alone))]
 pub fn tautrobin_open(n: u32, own: u32, state: &mut [u8], shelf: &mut [u8]) -> u64
     ensures { OpenCalled n own state.old shelf.old result state.new shelf.new }
 {
-    if 255 < n {
-        return NO_SUCH_SEAT;
-    }
-    if 255 < own {
-        return NO_SUCH_SEAT;
-    }
-    let n = n as u8;
-    let own = SeatNo(own as u8);
-    let header = Header { n, sender: own };
-    if !header.is_in_range() {
-        return NO_SUCH_SEAT;
-    }
+    let Some(seat) = seat_numbered(n, own) else {
+        return BadCall::NoSuchSeat.number();
+    };
     if state.len() != IMAGE_SIZE {
-        return NOT_SOUND;
+        return BadCall::NotSound.number();
     }
-    let opened = Seat::open(n, own, shelf);
-    keep(opened, state)
+    keep(Seat::open(seat.n, seat.sender, shelf), state, encode)
 }
 
 // Sends an edit: its packet goes to the start of the output.
@@ -108,17 +102,16 @@ pub fn tautrobin_send(state: &mut [u8], kind: u32, body: &[u8], out: &mut [u8]) 
     ensures { SendCalled state.old kind body.now out.old result state.new out.new }
 {
     if state.len() != IMAGE_SIZE {
-        return NOT_SOUND;
+        return BadCall::NotSound.number();
     }
     let seat = decode(&*state);
-    if KIND_MOST < kind {
+    let Some(wish) = wish_of(kind) else {
         if is_sound(seat) {
-            return NO_SUCH_KIND;
+            return BadCall::NoSuchKind.number();
         }
-        return NOT_SOUND;
-    }
-    let sent = seat.send(wish_of(kind), body, out);
-    keep_counts(sent, state)
+        return BadCall::NotSound.number();
+    };
+    keep(seat.send(wish, body, out), state, encode_counts)
 }
 
 // A packet arrives: it is handed over, put on the shelf, or refused.
@@ -126,11 +119,10 @@ pub fn tautrobin_arrive(state: &mut [u8], shelf: &mut [u8], packet: &[u8]) -> u6
     ensures { ArriveCalled state.old shelf.old packet.now result state.new shelf.new }
 {
     if state.len() != IMAGE_SIZE {
-        return NOT_SOUND;
+        return BadCall::NotSound.number();
     }
     let seat = decode(&*state);
-    let arrived = seat.arrive(packet, shelf);
-    keep(arrived, state)
+    keep(seat.arrive(packet, shelf), state, encode)
 }
 
 // The ready packet on the shelf that comes first is handed over: its body goes to the output, and its slot is freed.
@@ -138,9 +130,8 @@ pub fn tautrobin_release(state: &mut [u8], shelf: &mut [u8], out: &mut [u8]) -> 
     ensures { ReleaseCalled state.old shelf.old out.old result state.new shelf.new out.new }
 {
     if state.len() != IMAGE_SIZE {
-        return NOT_SOUND;
+        return BadCall::NotSound.number();
     }
     let seat = decode(&*state);
-    let released = seat.release(shelf, out);
-    keep(released, state)
+    keep(seat.release(shelf, out), state, encode)
 }

@@ -1,15 +1,16 @@
 -- `tautrobin_arrive` meets its contract: each way out is a law of the call.
-use Rattle.std.proofs.Common.{arith}
+use Rattle.std.proofs.Common.{ap, ◌∙◌, length, arith}
 use Rattle.tautrobin.proofs.ArriveCall.{arrive_wrong_length_is_10, arrive_steps, stepped_arrive_is_numbered, refused_arrive_call, stepped_arrive_call}
 use Rattle.tautrobin.proofs.tautrobin_arrive.Goals as goal
 
 pub returns-then-state-ne-IMAGE_SIZE : goal.returns-then-state-ne-IMAGE_SIZE
-returns-then-state-ne-IMAGE_SIZE c = refused_arrive_call _ _ _ 10 (omega arith) (arrive_wrong_length_is_10 _ _ _ c.if-state-ne-IMAGE_SIZE.true)
+returns-then-state-ne-IMAGE_SIZE c =
+    rw c.number.ensures (refused_arrive_call _ _ _ 10 (omega arith) (arrive_wrong_length_is_10 _ _ _ c.if-state-ne-IMAGE_SIZE.true))
 
-pub keep-requires : goal.keep-requires
-keep-requires c =
-    (c.if-state-ne-IMAGE_SIZE.false, λ done. stepped_arrive_is_numbered _ _ _ _ _ c.decode-seat.ensures.1 c.arrive-arrived.ensures)
+pub keep-requires-clause-can : goal.keep-requires-clause-can
+keep-requires-clause-can c image same done =
+    (ap length same ∙ c.if-state-ne-IMAGE_SIZE.false, stepped_arrive_is_numbered _ _ _ _ _ c.decode-seat.ensures.1 c.arrive.ensures)
 
 pub returns : goal.returns
 returns c =
-    stepped_arrive_call _ _ _ _ _ _ _ _ c.decode-seat.ensures.0 (arrive_steps _ _ _ c.if-state-ne-IMAGE_SIZE.false) c.arrive-arrived.ensures c.keep.ensures
+    stepped_arrive_call _ _ _ _ _ _ _ _ c.decode-seat.ensures.0 (arrive_steps _ _ _ c.if-state-ne-IMAGE_SIZE.false) c.arrive.ensures c.keep.ensures

@@ -1,5 +1,5 @@
 -- `encode_counts` meets its contract: past and barrier, over a state's own.
-use Rattle.std.proofs.Common.{rules}
+use Rattle.std.proofs.Common.{refl, rules}
 use Rattle.vectors.specs.Bytes.{Bytes}
 use Rattle.tautrobin.proofs.ImageRoundTrip.{counts_written}
 use Rattle.tautrobin.proofs.image.encode_counts.Goals as goal
@@ -8,4 +8,4 @@ pub returns : goal.returns
 unfolding Bytes
 returns c =
     let bytes : Bytes c.args.image.now = λ k. search rules in
-    counts_written c.args.image.now c.requires.0 bytes c.args.seat c.requires.1 (search rules) (search rules) _ _ c.put_fields.ensures c.put_fields-2.ensures
+    counts_written c.args.image.now c.requires.0 bytes c.args.seat c.requires.1 (search rules) (search rules) _ _ refl c.put_counts.ensures
