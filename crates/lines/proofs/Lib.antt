@@ -1,4 +1,5 @@
 pub mod Numbers
+pub mod Places
 pub mod Words
 pub mod Grammar
 pub mod LongLines

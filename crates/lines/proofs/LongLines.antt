@@ -7,13 +7,11 @@ use native.Mathlib.Omega.{arith}
 use lib.Dec.{eqb}
 use lib.ListN.{length, get_or}
 use borrow.Author.Tests.{eqb-true}
+use Rattle.std.specs.Prelude.{None}
 use Rattle.vectors.proofs.Every.{and_both}
 use Rattle.lines.specs.Lines.{space, with_first, words, is_number, is_letter, read_send, read_arrival, read_release, read_words, read_step, read_numbers, read_opening}
 use Rattle.lines.specs.Kept.{line_most}
-use Rattle.lines.specs.declared.Step.TheVariants.{Unreadable}
-use Rattle.lines.specs.declared.Opening.TheVariants.{Bad}
 use Rattle.lines.proofs.Numbers.{number_says}
-use Rattle.lines.proofs.Grammar.{two_numbers, three_numbers}
 
 -- ---- a line is as long as its words, each with the byte that ends it
 
@@ -33,6 +31,15 @@ span_of_words (byte ∷ rest) = by_space (eqb byte space) (words rest) (span_of_
 
 -- ---- how long a number and a letter are
 
+two_numbers : (a b : List ℕ) → (is_number a && is_number b) ≡ true → (is_number a ≡ true) × (is_number b ≡ true)
+two_numbers a b e = and_both (is_number a) (is_number b) e
+
+three_numbers : (a b c : List ℕ) → (is_number a && is_number b && is_number c) ≡ true → (is_number a ≡ true) × (is_number b ≡ true) × (is_number c ≡ true)
+three_numbers a b c e =
+    let ab-c = and_both (is_number a && is_number b) (is_number c) e in
+    let a-b = two_numbers a b ab-c.0 in
+    (a-b.0, a-b.1, ab-c.1)
+
 number_short : (word : List ℕ) → is_number word ≡ true → length word ≤ 5
 number_short word e = (number_says word e).few
 
@@ -46,7 +53,7 @@ meets false x-is y-is = y-is
 
 -- ---- long words are not readable
 
-long_send : (ws : List (List ℕ)) → 19 ≤ span ws → read_send ws ≡ Unreadable
+long_send : (ws : List (List ℕ)) → 19 ≤ span ws → read_send ws ≡ None
 unfolding read_send
 long_send [] h = refl
 long_send (seat ∷ []) h = meets (is_number seat) (λ n. absurd (omega (arith, number_short seat n))) refl
@@ -58,7 +65,7 @@ long_send (seat ∷ kind ∷ []) h = meets _ (too_long 111) (meets _ (too_long 9
         absurd (omega (arith, number_short seat both.0, letter_short letter kind both.1))
 long_send (seat ∷ kind ∷ more ∷ others) h = refl
 
-long_arrival : (ws : List (List ℕ)) → 19 ≤ span ws → read_arrival ws ≡ Unreadable
+long_arrival : (ws : List (List ℕ)) → 19 ≤ span ws → read_arrival ws ≡ None
 unfolding read_arrival
 long_arrival [] h = refl
 long_arrival (seat ∷ []) h = refl
@@ -71,13 +78,13 @@ long_arrival (seat ∷ sender ∷ number ∷ []) h =
     refl
 long_arrival (seat ∷ sender ∷ number ∷ more ∷ others) h = refl
 
-long_release : (ws : List (List ℕ)) → 19 ≤ span ws → read_release ws ≡ Unreadable
+long_release : (ws : List (List ℕ)) → 19 ≤ span ws → read_release ws ≡ None
 unfolding read_release
 long_release [] h = refl
 long_release (seat ∷ []) h = meets (is_number seat) (λ n. absurd (omega (arith, number_short seat n))) refl
 long_release (seat ∷ more ∷ others) h = refl
 
-long_words : (ws : List (List ℕ)) → 21 ≤ span ws → read_words ws ≡ Unreadable
+long_words : (ws : List (List ℕ)) → 21 ≤ span ws → read_words ws ≡ None
 unfolding read_words
 long_words [] h = refl
 long_words (letter ∷ others) h =
@@ -85,7 +92,7 @@ long_words (letter ∷ others) h =
     (meets (is_letter 97 letter) (λ e. long_arrival others (omega (arith, letter_short 97 letter e)))
     (meets (is_letter 114 letter) (λ e. long_release others (omega (arith, letter_short 114 letter e))) refl))
 
-long_numbers : (ws : List (List ℕ)) → 21 ≤ span ws → read_numbers ws ≡ Bad
+long_numbers : (ws : List (List ℕ)) → 21 ≤ span ws → read_numbers ws ≡ None
 unfolding read_numbers
 long_numbers [] h = refl
 long_numbers (n ∷ []) h = refl
@@ -95,8 +102,8 @@ long_numbers (n ∷ slots ∷ more ∷ others) h = refl
 
 -- ---- nor are long lines
 
-pub long_step : (line : List ℕ) → line_most ≤ length line → read_step line ≡ Unreadable
+pub long_step : (line : List ℕ) → line_most ≤ length line → read_step line ≡ None
 long_step line h = long_words (words line) (omega (arith, span_of_words line))
 
-pub long_opening : (line : List ℕ) → line_most ≤ length line → read_opening line ≡ Bad
+pub long_opening : (line : List ℕ) → line_most ≤ length line → read_opening line ≡ None
 long_opening line h = long_numbers (words line) (omega (arith, span_of_words line))

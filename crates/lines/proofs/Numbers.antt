@@ -1,16 +1,34 @@
 -- Laws of decimal numbers: what a number's digits are, and how large its value can be.
 use Prim.Native.Nat.{ℕ, zero, suc, ◌+◌, ◌*◌, ◌-◌, ◌^◌, ◌≤◌, ◌<◌}
-use mathlib.Core.Path.{◌≡◌}
-use mathlib.Core.Bool.{true, ◌&&◌}
+use mathlib.Core.Path.{◌≡◌, refl, sym, ap, ◌∙◌}
+use mathlib.Core.Bool.{Bool, true, ◌&&◌}
 use mathlib.Core.List.{List}
 use native.Mathlib.Nat.{pow-suc}
 use native.Mathlib.Numerals.{add-one}
 use native.Mathlib.Omega.{arith}
 use lib.Dec.{leb}
-use lib.ListN.{length, get_or}
+use lib.ListN.{length, get_or, take}
+use lib.Seq.{take_all}
+use Rattle.std.specs.List.{list_all}
+use Rattle.std.proofs.lemmas.List.Folds.{list_all_more}
 use borrow.Author.Tests.{leb-true}
 use Rattle.vectors.proofs.Every.{and_both, all_at}
+use Rattle.vectors.specs.Vectors.{all}
 use Rattle.lines.specs.Lines.{is_digit, digits_alone, is_number, value_of}
+
+-- the digits in order, and by index
+listed : (word : List ℕ) (k : ℕ) → k ≤ length word → list_all (λ byte. is_digit byte) (take k word) ≡ all k (λ i. is_digit (get_or word i 0))
+unfolding all
+listed word zero h = refl
+listed word (suc k) h =
+    ap (λ (n : ℕ). list_all (λ byte. is_digit byte) (take n word)) (sym (add-one k))
+    ∙ list_all_more (λ byte. is_digit byte) word k 0 (omega arith)
+    ∙ ap (λ (b : Bool). b && is_digit (get_or word k 0)) (listed word k (omega arith))
+
+pub listed_digits : (word : List ℕ) → list_all (λ byte. is_digit byte) word ≡ digits_alone word
+unfolding digits_alone
+listed_digits word =
+    ap (list_all (λ byte. is_digit byte)) (sym (take_all (length word) word (omega arith))) ∙ listed word (length word) (omega arith)
 
 -- a number of 1 to 5 digits
 pub record IsNumber (word : List ℕ) : Type 0 where

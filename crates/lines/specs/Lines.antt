@@ -1,11 +1,11 @@
 -- The lines of a step list (document 01, "The step-list program"). A line is the bytes before its line feed.
-use Rattle.std.specs.Prelude.{ℕ, zero, suc, ◌+◌, ◌*◌, ◌-◌, ◌≤◌, ◌<◌, ◌≡◌, Bool, cond, ◌&&◌, List, [], ◌∷◌, leb, eqb, length, get_or}
+use Rattle.std.specs.Prelude.{ℕ, zero, suc, ◌+◌, ◌*◌, ◌-◌, Bool, cond, ◌&&◌, List, [], ◌∷◌, leb, eqb, length, get_or, Option, Some, None}
 use Rattle.vectors.specs.Vectors.{all}
-use Rattle.lines.specs.declared.Letter.TheVariants.{Ordinary, Causal, Missing}
+use Rattle.lines.specs.declared.Letter.{Letter}
+use Rattle.lines.specs.declared.Letter.TheVariants.{Ordinary, Causal}
 use Rattle.lines.specs.declared.Step.{Step}
-use Rattle.lines.specs.declared.Step.TheVariants.{Send, Arrive, Release, Unreadable}
+use Rattle.lines.specs.declared.Step.TheVariants.{Send, Arrive, Release}
 use Rattle.lines.specs.declared.Opening.{Opening}
-use Rattle.lines.specs.declared.Opening.TheVariants.{Session, Bad}
 
 -- A line feed, a space, and the letters.
 abbrev pub line_feed : ℕ
@@ -44,12 +44,6 @@ unfoldable pub words : List ℕ → List (List ℕ)
 words [] = [] ∷ []
 words (byte ∷ rest) = cond (eqb byte space) ([] ∷ words rest) (with_first byte (words rest))
 
--- The first word ends here: no space stands before, and one stands here or nothing does.
-pub record WordEnd (line : List ℕ) (end : ℕ) : Type 0 where
-  pub inside : end ≤ length line
-  pub no_space : (k : ℕ) → k < end → get_or line k 0 ≡ space → ⊥
-  pub at_space : end < length line → get_or line end 0 ≡ space
-
 -- A decimal digit, and a word of digits alone.
 abbrev pub is_digit : ℕ → Bool
 is_digit byte = leb 48 byte && leb byte 57
@@ -69,51 +63,59 @@ value_of (suc k) word = value_of k word * 10 + (get_or word k 0 - 48)
 abbrev pub number_in : List ℕ → ℕ
 number_in word = value_of (length word) word
 
+-- The number that a word is, if it is one.
+abbrev pub number_of : List ℕ → Option ℕ
+number_of word = cond (is_number word) (Some (number_in word)) None
+
 -- A word is this one letter.
 abbrev pub is_letter : ℕ → List ℕ → Bool
 is_letter letter word = eqb (length word) 1 && eqb (get_or word 0 0) letter
 
+-- The letter of a kind.
+abbrev pub letter_of : List ℕ → Option Letter
+letter_of word = cond (is_letter letter_o word) (Some Ordinary) (cond (is_letter letter_c word) (Some Causal) None)
+
 -- What the words after the letter s say: a seat, and the kind's letter, which may be missing.
-unfoldable pub read_send : List (List ℕ) → Step
-read_send (seat ∷ []) = cond (is_number seat) (Send (number_in seat) Missing) Unreadable
+unfoldable pub read_send : List (List ℕ) → Option Step
+read_send (seat ∷ []) = cond (is_number seat) (Some (Send (number_in seat) None)) None
 read_send (seat ∷ kind ∷ []) =
-    cond (is_number seat && is_letter letter_o kind) (Send (number_in seat) Ordinary)
-    (cond (is_number seat && is_letter letter_c kind) (Send (number_in seat) Causal) Unreadable)
-read_send [] = Unreadable
-read_send (seat ∷ kind ∷ more ∷ others) = Unreadable
+    cond (is_number seat && is_letter letter_o kind) (Some (Send (number_in seat) (Some Ordinary)))
+    (cond (is_number seat && is_letter letter_c kind) (Some (Send (number_in seat) (Some Causal))) None)
+read_send [] = None
+read_send (seat ∷ kind ∷ more ∷ others) = None
 
 -- After the letter a: a seat, a sender and a number.
-unfoldable pub read_arrival : List (List ℕ) → Step
+unfoldable pub read_arrival : List (List ℕ) → Option Step
 read_arrival (seat ∷ sender ∷ number ∷ []) =
-    cond (is_number seat && is_number sender && is_number number) (Arrive (number_in seat) (number_in sender) (number_in number)) Unreadable
-read_arrival [] = Unreadable
-read_arrival (seat ∷ []) = Unreadable
-read_arrival (seat ∷ sender ∷ []) = Unreadable
-read_arrival (seat ∷ sender ∷ number ∷ more ∷ others) = Unreadable
+    cond (is_number seat && is_number sender && is_number number) (Some (Arrive (number_in seat) (number_in sender) (number_in number))) None
+read_arrival [] = None
+read_arrival (seat ∷ []) = None
+read_arrival (seat ∷ sender ∷ []) = None
+read_arrival (seat ∷ sender ∷ number ∷ more ∷ others) = None
 
 -- After the letter r: a seat.
-unfoldable pub read_release : List (List ℕ) → Step
-read_release (seat ∷ []) = cond (is_number seat) (Release (number_in seat)) Unreadable
-read_release [] = Unreadable
-read_release (seat ∷ more ∷ others) = Unreadable
+unfoldable pub read_release : List (List ℕ) → Option Step
+read_release (seat ∷ []) = cond (is_number seat) (Some (Release (number_in seat))) None
+read_release [] = None
+read_release (seat ∷ more ∷ others) = None
 
 -- A line after the first: a letter, then what it asks for.
-unfoldable pub read_words : List (List ℕ) → Step
-read_words [] = Unreadable
+unfoldable pub read_words : List (List ℕ) → Option Step
+read_words [] = None
 read_words (letter ∷ others) =
     cond (is_letter letter_s letter) (read_send others)
     (cond (is_letter letter_a letter) (read_arrival others)
-    (cond (is_letter letter_r letter) (read_release others) Unreadable))
+    (cond (is_letter letter_r letter) (read_release others) None))
 
-abbrev pub read_step : List ℕ → Step
+abbrev pub read_step : List ℕ → Option Step
 read_step line = read_words (words line)
 
 -- Line one: n and the slot count of every shelf.
-unfoldable pub read_numbers : List (List ℕ) → Opening
-read_numbers (n ∷ slots ∷ []) = cond (is_number n && is_number slots) (Session (number_in n) (number_in slots)) Bad
-read_numbers [] = Bad
-read_numbers (n ∷ []) = Bad
-read_numbers (n ∷ slots ∷ more ∷ others) = Bad
+unfoldable pub read_numbers : List (List ℕ) → Option Opening
+read_numbers (n ∷ slots ∷ []) = cond (is_number n && is_number slots) (Some (record { n = number_in n; slots = number_in slots })) None
+read_numbers [] = None
+read_numbers (n ∷ []) = None
+read_numbers (n ∷ slots ∷ more ∷ others) = None
 
-abbrev pub read_opening : List ℕ → Opening
+abbrev pub read_opening : List ℕ → Option Opening
 read_opening line = read_numbers (words line)

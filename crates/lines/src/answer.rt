@@ -2,17 +2,19 @@
 ghost use Rattle.std.specs.Prelude.{◌+◌, ◌≤◌, length};
 ghost use Rattle.lines.specs.AnswerLine.{decimal, spaced, answer_line, answer_most, Wrote};
 
+// Std's `write!` into lent bytes says nothing of what they hold then, so the digits are written here.
+
 // The number goes to place `at` and on. The place after it comes back. The callers have found room.
 fn put_number(out: &mut [u8], at: usize, number: u64) -> usize
     requires { at + length (decimal number) ≤ length out.old }
     ensures { Wrote out.old at (decimal number) result out.new }
 {
     if number < 10 {
-        out[at] = 48 + number as u8;
+        out[at] = b'0' + number as u8;
         return at + 1;
     }
     let last = put_number(out, at, number / 10);
-    out[last] = 48 + (number % 10) as u8;
+    out[last] = b'0' + (number % 10) as u8;
     last + 1
 }
 
@@ -21,7 +23,7 @@ fn put_spaced(out: &mut [u8], at: usize, number: u64) -> usize
     requires { at + length (spaced number) ≤ length out.old }
     ensures { Wrote out.old at (spaced number) result out.new }
 {
-    out[at] = 32;
+    out[at] = b' ';
     put_number(out, at + 1, number)
 }
 
@@ -41,6 +43,6 @@ pub fn put_answer(
     let sender_at = put_spaced(out, answer_at, answer as u64);
     let edit_at = put_spaced(out, sender_at, sender as u64);
     let end = put_spaced(out, edit_at, edit as u64);
-    out[end] = 10;
+    out[end] = b'\n';
     end + 1
 }

@@ -3,60 +3,51 @@
 
 pub mod answer;
 
-ghost use Rattle.std.specs.Prelude.{◌≡◌, true, ◌-◌, ◌≤◌};
-ghost use Rattle.lines.specs.Lines.{WordEnd, words, is_digit, digits_alone, is_number, number_in, is_letter, read_send, read_arrival, read_release, read_step, read_opening};
+ghost use Rattle.std.specs.Prelude.{◌≡◌, ◌==◌, true, [], ◌∷◌, MatchOption};
+ghost use Rattle.std.specs.List.{list_all, position};
+ghost use Rattle.lines.specs.Lines.{space, words, is_digit, is_number, number_in, number_of, letter_of, read_send, read_arrival, read_release, read_step, read_opening};
 
 // The kind that a send line names.
 #[derive(Clone, Copy)]
 pub enum Letter {
     Ordinary,
     Causal,
-    Missing,
 }
 
-// What a line after the first says.
+// What a line after the first says. A send line may lack its letter.
 #[derive(Clone, Copy)]
 pub enum Step {
-    Send(u32, Letter),
+    Send(u32, Option<Letter>),
     Arrive(u32, u32, u32),
     Release(u32),
-    Unreadable,
 }
 
 // What line one says: n and the slots of every shelf.
 #[derive(Clone, Copy)]
-pub enum Opening {
-    Session(u32, u32),
-    Bad,
+pub struct Opening {
+    pub n: u32,
+    pub slots: u32,
 }
 
-// Where the first word ends: at the first space, or at the end.
-fn word_end(line: &[u8]) -> usize
-    ensures { WordEnd line.now result }
+// Where the first space stands.
+fn first_space(line: &[u8]) -> Option<usize>
+    ensures { result ≡ position (λ byte. byte == space) line.now }
 {
-    for k in 0..line.len() {
-        if line[k] == 32 {
-            return k;
-        }
-    }
-    line.len()
+    line.iter().position(|byte| *byte == b' ')
 }
 
-fn is_digit(byte: u8) -> bool
-    ensures { result ≡ is_digit byte }
+// The first word and what stands behind its space, where the line has a space.
+fn split_word(line: &[u8]) -> Option<(&[u8], &[u8])>
+    ensures { MatchOption result (words line.now ≡ line.now ∷ []) (λ parts. words line.now ≡ parts.0.now ∷ words parts.1.now) }
 {
-    (48 <= byte) & (byte <= 57)
+    let end = first_space(line)?;
+    Some((&line[..end], &line[end + 1..]))
 }
 
-// Whether every byte is a digit.
 fn has_digits_alone(word: &[u8]) -> bool
-    ensures { result ≡ digits_alone word.now }
+    ensures { result ≡ list_all (λ byte. is_digit byte) word.now }
 {
-    let mut ok = true;
-    for k in 0..word.len() {
-        ok = ok & is_digit(word[k]);
-    }
-    ok
+    word.iter().all(u8::is_ascii_digit)
 }
 
 // Whether a word is a number of 1 to 5 digits.
@@ -66,143 +57,89 @@ fn is_number(word: &[u8]) -> bool
     (1 <= word.len()) & (word.len() <= 5) & has_digits_alone(word)
 }
 
-fn digit(byte: u8) -> u32
-    requires { 48 ≤ byte }
-    ensures { result ≡ byte - 48 }
-{
-    (byte - 48) as u32
-}
-
-// The number that a word of at most 5 digits spells. The callers have found it to be one.
+// The number that a word of at most 5 digits spells. The caller has found it to be one.
 fn value_of(word: &[u8]) -> u32
     requires { is_number word.now ≡ true }
     ensures { result ≡ number_in word.now }
 {
-    let mut value: u32 = 0;
-    for k in 0..word.len() {
-        value = value * 10 + digit(word[k]);
+    let mut value = 0;
+    for byte in word {
+        value = value * 10 + (*byte - b'0') as u32;
     }
     value
 }
 
-// Whether a word is this one letter.
-fn is_letter(word: &[u8], letter: u8) -> bool
-    ensures { result ≡ is_letter letter word.now }
+fn read_number(word: &[u8]) -> Option<u32>
+    ensures { result ≡ number_of word.now }
 {
-    if word.len() != 1 {
-        return false;
+    if !is_number(word) {
+        return None;
     }
-    word[0] == letter
+    Some(value_of(word))
+}
+
+// The letter of a kind.
+fn read_letter(word: &[u8]) -> Option<Letter>
+    ensures { result ≡ letter_of word.now }
+{
+    match word {
+        b"o" => Some(Letter::Ordinary),
+        b"c" => Some(Letter::Causal),
+        _ => None,
+    }
 }
 
 // After the letter s: a seat, and the kind's letter, which may be missing.
-fn read_send(rest: &[u8]) -> Step
+fn read_send(rest: &[u8]) -> Option<Step>
     ensures { result ≡ read_send (words rest.now) }
 {
-    let end = word_end(rest);
-    if end == rest.len() {
-        if !is_number(rest) {
-            return Step::Unreadable;
-        }
-        return Step::Send(value_of(rest), Letter::Missing);
-    }
-    let seat = &rest[..end];
-    let next = end + 1;
-    let kind = &rest[next..];
-    if word_end(kind) != kind.len() {
-        return Step::Unreadable;
-    }
-    if !is_number(seat) {
-        return Step::Unreadable;
-    }
-    if is_letter(kind, 111) {
-        return Step::Send(value_of(seat), Letter::Ordinary);
-    }
-    if is_letter(kind, 99) {
-        return Step::Send(value_of(seat), Letter::Causal);
-    }
-    Step::Unreadable
+    let Some((seat, kind)) = split_word(rest) else {
+        return Some(Step::Send(read_number(rest)?, None));
+    };
+    let letter = read_letter(kind)?;
+    Some(Step::Send(read_number(seat)?, Some(letter)))
 }
 
 // After the letter a: a seat, a sender and a number.
-fn read_arrival(rest: &[u8]) -> Step
+fn read_arrival(rest: &[u8]) -> Option<Step>
     ensures { result ≡ read_arrival (words rest.now) }
 {
-    let seat_end = word_end(rest);
-    if seat_end == rest.len() {
-        return Step::Unreadable;
-    }
-    let seat = &rest[..seat_end];
-    let sender_at = seat_end + 1;
-    let others = &rest[sender_at..];
-    let sender_end = word_end(others);
-    if sender_end == others.len() {
-        return Step::Unreadable;
-    }
-    let sender = &others[..sender_end];
-    let number_at = sender_end + 1;
-    let number = &others[number_at..];
-    if word_end(number) != number.len() {
-        return Step::Unreadable;
-    }
-    if !(is_number(seat) & is_number(sender) & is_number(number)) {
-        return Step::Unreadable;
-    }
-    Step::Arrive(value_of(seat), value_of(sender), value_of(number))
+    let (seat, others) = split_word(rest)?;
+    let (sender, number) = split_word(others)?;
+    Some(Step::Arrive(
+        read_number(seat)?,
+        read_number(sender)?,
+        read_number(number)?,
+    ))
 }
 
 // After the letter r: a seat.
-fn read_release(rest: &[u8]) -> Step
+fn read_release(rest: &[u8]) -> Option<Step>
     ensures { result ≡ read_release (words rest.now) }
 {
-    if word_end(rest) != rest.len() {
-        return Step::Unreadable;
-    }
-    if !is_number(rest) {
-        return Step::Unreadable;
-    }
-    Step::Release(value_of(rest))
+    Some(Step::Release(read_number(rest)?))
 }
 
 // A line after the first.
-pub fn read_step(line: &[u8]) -> Step
+pub fn read_step(line: &[u8]) -> Option<Step>
     ensures { result ≡ read_step line.now }
 {
-    let end = word_end(line);
-    if end == line.len() {
-        return Step::Unreadable;
+    let (letter, rest) = split_word(line)?;
+    match letter {
+        b"s" => read_send(rest),
+        b"a" => read_arrival(rest),
+        b"r" => read_release(rest),
+        _ => None,
     }
-    let letter = &line[..end];
-    let next = end + 1;
-    let rest = &line[next..];
-    if is_letter(letter, 115) {
-        return read_send(rest);
-    }
-    if is_letter(letter, 97) {
-        return read_arrival(rest);
-    }
-    if is_letter(letter, 114) {
-        return read_release(rest);
-    }
-    Step::Unreadable
 }
 
 // Line one.
-pub fn read_opening(line: &[u8]) -> Opening
+pub fn read_opening(line: &[u8]) -> Option<Opening>
     ensures { result ≡ read_opening line.now }
 {
-    let end = word_end(line);
-    if end == line.len() {
-        return Opening::Bad;
-    }
-    let n = &line[..end];
-    let next = end + 1;
-    let slots = &line[next..];
-    if word_end(slots) != slots.len() {
-        return Opening::Bad;
-    }
-    if !(is_number(n) & is_number(slots)) {
-        return Opening::Bad;
-    }
-    Opening::Session(value_of(n), value_of(slots))
+    let (n, slots) = split_word(line)?;
+    Some(Opening {
+        n: read_number(n)?,
+        slots: read_number(slots)?,
+    })
 }

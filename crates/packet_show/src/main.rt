@@ -4,91 +4,88 @@
 
 use answers::{Answer, SeatNo};
 use packet::{Header, Heading, Kind};
-use std::io;
+use std::{fmt, io};
 
-fn print(rt: &impl Print, text: &[u8]) -> io::Result<()> {
-    rt.write_all(text)
+// The first n entries of a vector, each behind a space.
+#[derive(Clone, Copy)]
+struct Entries {
+    vector: [u16; 16],
+    n: usize,
 }
 
-fn print_number(rt: &impl Print, name: &[u8], x: u64) -> io::Result<()> {
-    print(rt, name)?;
-    print!(rt; "{x}")
-}
-
-// A name and the first n entries of a vector.
-fn print_vector(rt: &impl Print, name: &[u8], v: [u16; 16], n: usize) -> io::Result<()> {
-    print(rt, name)?;
-    for k in 0..16 {
-        if k < n {
-            print_number(rt, b" ", v[k] as u64)?;
+impl fmt::Display for Entries {
+    fn fmt<W: fmt::Write>(&self, f: &mut fmt::Formatter<W>) -> fmt::Result {
+        for entry in self.vector.iter().take(self.n) {
+            write!(f, " {entry}")?;
         }
+        Ok(())
     }
-    Ok(())
 }
 
-fn wide(b: u8) -> u64 {
-    b as u64
-}
+// Bytes in hexadecimal, each behind a space.
+#[derive(Clone, Copy)]
+struct Hex<'a>(&'a [u8]);
 
-// The first n bytes.
-fn print_bytes(rt: &impl Print, bytes: &[u8], n: usize) -> io::Result<()> {
-    for k in 0..bytes.len() {
-        if k < n {
-            print(rt, b" ")?;
-            let byte = wide(bytes[k]);
-            print!(rt; "{byte:02x}")?;
+impl fmt::Display for Hex<'_> {
+    fn fmt<W: fmt::Write>(&self, f: &mut fmt::Formatter<W>) -> fmt::Result {
+        for byte in self.0 {
+            write!(f, " {byte:02x}")?;
         }
+        Ok(())
     }
-    print(rt, b"\n")
 }
 
 // An answer as document 01 reports it: number, sender, sequence number and length.
-fn print_answer(rt: &impl Print, answer: Answer) -> io::Result<()> {
-    let report = answer.report();
-    let edit = report.edit;
-    let sender = edit.sender;
-    let number = edit.number;
-    print_number(rt, b"  written: ", report.answer as u64)?;
-    print_number(rt, b" ", sender.0 as u64)?;
-    print_number(rt, b" ", number.0 as u64)?;
-    print_number(rt, b" ", edit.length as u64)
+#[derive(Clone, Copy)]
+struct Reported(Answer);
+
+impl fmt::Display for Reported {
+    fn fmt<W: fmt::Write>(&self, f: &mut fmt::Formatter<W>) -> fmt::Result {
+        let report = self.0.report();
+        let edit = report.edit;
+        write!(
+            f,
+            "  written: {} {} {} {}",
+            report.answer, edit.sender.0, edit.number.0, edit.length,
+        )
+    }
 }
 
-fn print_heading(rt: &impl Print, heading: Heading, body: usize) -> io::Result<()> {
-    let kind = heading.kind;
-    match kind {
-        Kind::Ordinary => print(rt, b"ordinary")?,
-        Kind::Causal => print(rt, b"causal")?,
+// A heading, without the vectors.
+#[derive(Clone, Copy)]
+struct Headed(Heading);
+
+impl fmt::Display for Headed {
+    fn fmt<W: fmt::Write>(&self, f: &mut fmt::Formatter<W>) -> fmt::Result {
+        let heading = self.0;
+        let kind = match heading.kind {
+            Kind::Ordinary => "ordinary",
+            Kind::Causal => "causal",
+        };
+        write!(f, "{kind}, seat {} of {}", heading.sender.0, heading.n)
     }
-    let sender = heading.sender;
-    print_number(rt, b", seat ", sender.0 as u64)?;
-    print_number(rt, b" of ", heading.n as u64)?;
-    print_number(rt, b", body of ", body as u64)
 }
 
 // What a packet says, and the same written again, or that it is refused.
-fn show(rt: &impl Print, name: &[u8], bytes: &[u8]) -> io::Result<()> {
-    print(rt, name)?;
+fn show(rt: &impl Print, name: &str, bytes: &[u8]) -> io::Result<()> {
     let reading = packet::read(bytes);
+    let past = reading.past;
+    let barrier = reading.barrier;
+    let body = packet::body(bytes);
+    let length = body.len();
     match reading.answer {
         Err(refusal) => {
-            print_number(rt, b"refused ", refusal.number() as u64)?;
-            print_number(rt, b", body of ", packet::body(bytes).len() as u64)?;
-            print(rt, b"\n")
+            let number = refusal.number();
+            println!(rt; "{name}: refused {number}, body of {length}")
         }
         Ok(heading) => {
-            print_heading(rt, heading, packet::body(bytes).len())?;
             let n = heading.n as usize;
-            print_vector(rt, b", past", reading.past, n)?;
-            print_vector(rt, b", barrier", reading.barrier, n)?;
-            print(rt, b"\n")?;
-            again(
-                rt,
-                heading,
-                reading.past,
-                reading.barrier,
-                packet::body(bytes),
-            )
+            let headed = Headed(heading);
+            let past_shown = Entries { vector: past, n };
+            let barrier_shown = Entries { vector: barrier, n };
+            print!(rt; "{name}: {headed}, body of {length}, ")?;
+            println!(rt; "past{past_shown}, barrier{barrier_shown}")?;
+            again(rt, heading, past, barrier, body)
         }
     }
 }
@@ -101,21 +98,17 @@ fn again(
     barrier: [u16; 16],
     body: &[u8],
 ) -> io::Result<()> {
-    let sender = heading.sender;
     let header = Header {
         n: heading.n,
-        sender,
+        sender: heading.sender,
     };
-    let kind = heading.kind;
     let mut out = [255u8; 267];
-    let answer = packet::write(kind, header, past, barrier, body, &mut out);
-    print_answer(rt, answer)?;
-    print(rt, b":")?;
-    print_bytes(rt, &out, 18)
+    let answer = packet::write(heading.kind, header, past, barrier, body, &mut out);
+    println!(rt; "{}:{}", Reported(answer), Hex(&out[..18]))
 }
 
 // What writing one seat's first edit, ordinary, with this body answers.
-fn write_body(rt: &impl Print, name: &[u8], body: &[u8]) -> io::Result<()> {
+fn write_body(rt: &impl Print, name: &str, body: &[u8]) -> io::Result<()> {
     let header = Header {
         n: 1,
         sender: SeatNo(1),
@@ -124,64 +117,61 @@ fn write_body(rt: &impl Print, name: &[u8], body: &[u8]) -> io::Result<()> {
     past[0] = 1;
     let mut out = [0u8; 267];
     let answer = packet::write(Kind::Ordinary, header, past, [0; 16], body, &mut out);
-    print(rt, name)?;
-    print_answer(rt, answer)?;
-    print(rt, b":")?;
-    print_bytes(rt, &out, 9)
+    println!(rt; "{name}:{}:{}", Reported(answer), Hex(&out[..9]))
 }
 
 fn main(rt: HostRuntime) -> io::Result<()> {
     show(
         &rt,
-        b"P4: ",
+        "P4",
         b"\x12\x08\x00\x00\x02\x00\x00\x00\x00\x00\x01\x00\x00\x00\x00",
     )?;
     let mut most = [0u8; 207];
     most[0] = 16;
     most[2] = 200;
     most[4] = 1;
-    show(&rt, b"body of 200: ", &most)?;
+    show(&rt, "body of 200", &most)?;
     let mut more = [0u8; 208];
     more[0] = 16;
     more[2] = 201;
     more[4] = 1;
-    show(&rt, b"body of 201: ", &more)?;
-    write_body(&rt, b"body of 201:", &[7u8; 201])?;
-    show(&rt, b"empty: ", b"")?;
-    show(&rt, b"point 1: ", b"\x12\x08")?;
+    show(&rt, "body of 201", &more)?;
+    write_body(&rt, "body of 201", &[7u8; 201])?;
+    show(&rt, "empty", b"")?;
+    show(&rt, "point 1", b"\x12\x08")?;
     show(
         &rt,
-        b"point 2: ",
+        "point 2",
         b"\x22\x08\x00\x00\x02\x00\x00\x00\x00\x00\x01\x00\x00\x00\x00",
     )?;
     show(
         &rt,
-        b"point 3: ",
+        "point 3",
         b"\x12\x09\x00\x00\x02\x00\x00\x00\x00\x00\x01\x00\x00\x00\x00",
     )?;
     show(
         &rt,
-        b"point 4: ",
+        "point 4",
         b"\x12\x38\x00\x00\x02\x00\x00\x00\x00\x00\x01\x00\x00\x00\x00",
     )?;
     show(
         &rt,
-        b"point 5: ",
+        "point 5",
         b"\x12\x08\xc9\x00\x02\x00\x00\x00\x00\x00\x01\x00\x00\x00\x00",
     )?;
     show(
         &rt,
-        b"point 6: ",
+        "point 6",
         b"\x12\x08\x01\x00\x02\x00\x00\x00\x00\x00\x01\x00\x00\x00\x00",
     )?;
     show(
         &rt,
-        b"point 7: ",
+        "point 7",
         b"\x12\x08\x00\x00\x02\x00\x00\x00\x00\x00\x02\x00\x00\x00\x00",
     )?;
     show(
         &rt,
-        b"point 8: ",
+        "point 8",
         b"\x12\x08\x00\x00\x02\x00\x00\x00\x00\x00\x00\x00\x00\x00\x00",
     )
 }

@@ -16,7 +16,7 @@ use Rattle.seat.specs.declared.Seat.{Seat}
 use Rattle.seat.specs.declared.Stepped.{Stepped}
 use Rattle.seat.specs.declared.Wish.{Wish}
 use Rattle.steps.specs.Session.{packet_most}
-use Rattle.steps.specs.Memory.{seat_in, shelf_size, shelf_in, piece, with_piece, with_letter, walked_to, SentEmpty, SentAt, ArrivedAt, ReleasedAt}
+use Rattle.steps.specs.Memory.{seat_in, shelf_size, shelf_in, piece, with_piece, with_edit, walked_to, SentEmpty, SentAt, ArrivedAt, ReleasedAt}
 use Rattle.steps.specs.declared.walk.Walk.{Walk}
 use Rattle.steps.specs.declared.walk.Walked.{Walked}
 use Rattle.steps.proofs.Parts.{part_lent, part_back}
@@ -30,44 +30,42 @@ module _ (seat : Seat) (past_long : length seat.past ≡ 16) (barrier_long : len
   empty_packet_long wish most =
       length_packet (kind_of wish) (header_of seat) (past_sent seat) (barrier_sent seat (kind_of wish)) [] (rw (length-set, past_long) most) (rw (barrier_sent_long (kind_of wish)) most)
 
-module _ (walk : Walk) (i : ℕ) (buffer : List ℕ) (stepped : Stepped) (after : List ℕ) (walked : Walked) where
-  pub sent_at : (wish : Wish) (noted : Walk)
-      → SentEmpty (seat_in walk i) wish (take (packet_most * walk.letters + packet_most - packet_most * walk.letters) (drop (packet_most * walk.letters) buffer)) stepped after
-      → noted ≡ with_letter walk stepped.answer
+module _ (walk : Walk) (i : ℕ) (buffer : List ℕ) (stepped : Stepped) (after : List ℕ) (walked : Walked) (start end : ℕ) where
+  pub sent_at : (wish : Wish) (noted : Walk) → start ≡ packet_most * walk.letters → end ≡ packet_most * walk.letters + packet_most
+      → SentEmpty (seat_in walk i) wish (take (end - start) (drop start buffer)) stepped after
+      → noted ≡ with_edit walk stepped.answer
       → walked ≡ walked_to noted i stepped.seat stepped.answer
-      → SentAt walk i wish buffer walked (put_mid (packet_most * walk.letters) (packet_most * walk.letters + packet_most - packet_most * walk.letters) buffer after)
-  sent_at wish noted lent is-noted moved =
+      → SentAt walk i wish buffer walked (put_mid start (end - start) buffer after)
+  sent_at wish noted starts ends lent is-noted moved =
       let sent : Sent (seat_in walk i) wish [] (piece packet_most buffer walk.letters) stepped after
-      = subst (λ (out : List ℕ). Sent (seat_in walk i) wish [] out stepped after) (part_lent packet_most walk.letters buffer) lent.sent in
+      = subst (λ (out : List ℕ). Sent (seat_in walk i) wish [] out stepped after) (part_lent packet_most walk.letters buffer start end starts ends) lent.sent in
       record {
         walked_is = moved
             ∙ ap (λ (m : Walk). walked_to m i stepped.seat stepped.answer) is-noted
-            ∙ (λ j. walked_to (with_letter walk (sent.answered j)) i (sent.next j) (sent.answered j));
-        packets_are = part_back packet_most walk.letters buffer after
+            ∙ (λ j. walked_to (with_edit walk (sent.answered j)) i (sent.next j) (sent.answered j));
+        packets_are = part_back packet_most walk.letters buffer start end starts ends after
             ∙ ap (with_piece packet_most buffer walk.letters) sent.output;
         packet_long = lent.packet_long;
       }
 
-  pub arrived_at : (packet : List ℕ)
-      → Arrived (seat_in walk i) packet (take (shelf_size walk * i + shelf_size walk - shelf_size walk * i) (drop (shelf_size walk * i) buffer)) stepped after
-      → walked ≡ walked_to walk i stepped.seat stepped.answer
-      → ArrivedAt walk i packet buffer walked (put_mid (shelf_size walk * i) (shelf_size walk * i + shelf_size walk - shelf_size walk * i) buffer after)
-  arrived_at packet lent moved =
-      let arrived : Arrived (seat_in walk i) packet (shelf_in walk buffer i) stepped after
-      = subst (λ (shelf : List ℕ). Arrived (seat_in walk i) packet shelf stepped after) (part_lent (shelf_size walk) i buffer) lent in
-      record {
-        walked_is = moved ∙ (λ j. walked_to walk i (arrived.next j) (arrived.answered j));
-        shelves_are = part_back (shelf_size walk) i buffer after ∙ ap (with_piece (shelf_size walk) buffer i) arrived.shelf_after_is;
-      }
+  module _ (starts : start ≡ shelf_size walk * i) (ends : end ≡ shelf_size walk * i + shelf_size walk)
+      (moved : walked ≡ walked_to walk i stepped.seat stepped.answer) where
+    pub arrived_at : (packet : List ℕ) → Arrived (seat_in walk i) packet (take (end - start) (drop start buffer)) stepped after
+        → ArrivedAt walk i packet buffer walked (put_mid start (end - start) buffer after)
+    arrived_at packet lent =
+        let arrived : Arrived (seat_in walk i) packet (shelf_in walk buffer i) stepped after
+        = subst (λ (shelf : List ℕ). Arrived (seat_in walk i) packet shelf stepped after) (part_lent (shelf_size walk) i buffer start end starts ends) lent in
+        record {
+          walked_is = moved ∙ (λ j. walked_to walk i (arrived.next j) (arrived.answered j));
+          shelves_are = part_back (shelf_size walk) i buffer start end starts ends after ∙ ap (with_piece (shelf_size walk) buffer i) arrived.shelf_after_is;
+        }
 
-  pub released_at : (out : List ℕ)
-      → Released (seat_in walk i) (take (shelf_size walk * i + shelf_size walk - shelf_size walk * i) (drop (shelf_size walk * i) buffer)) [] stepped after out
-      → walked ≡ walked_to walk i stepped.seat stepped.answer
-      → ReleasedAt walk i buffer walked (put_mid (shelf_size walk * i) (shelf_size walk * i + shelf_size walk - shelf_size walk * i) buffer after)
-  released_at out lent moved =
-      let released : Released (seat_in walk i) (shelf_in walk buffer i) [] stepped after out
-      = subst (λ (shelf : List ℕ). Released (seat_in walk i) shelf [] stepped after out) (part_lent (shelf_size walk) i buffer) lent in
-      record {
-        walked_is = moved ∙ (λ j. walked_to walk i (released.next j) (released.answered j));
-        shelves_are = part_back (shelf_size walk) i buffer after ∙ ap (with_piece (shelf_size walk) buffer i) released.shelf_after_is;
-      }
+    pub released_at : (out : List ℕ) → Released (seat_in walk i) (take (end - start) (drop start buffer)) [] stepped after out
+        → ReleasedAt walk i buffer walked (put_mid start (end - start) buffer after)
+    released_at out lent =
+        let released : Released (seat_in walk i) (shelf_in walk buffer i) [] stepped after out
+        = subst (λ (shelf : List ℕ). Released (seat_in walk i) shelf [] stepped after out) (part_lent (shelf_size walk) i buffer start end starts ends) lent in
+        record {
+          walked_is = moved ∙ (λ j. walked_to walk i (released.next j) (released.answered j));
+          shelves_are = part_back (shelf_size walk) i buffer start end starts ends after ∙ ap (with_piece (shelf_size walk) buffer i) released.shelf_after_is;
+        }

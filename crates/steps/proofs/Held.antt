@@ -1,20 +1,25 @@
 -- The session that is held: its places and letters, and what another state, shelf or packet makes of it.
 use Prim.Native.Nat.{ℕ, suc, ◌+◌, ◌*◌, ◌-◌, ◌≤◌, ◌<◌}
-use mathlib.Core.Bool.{Bool, ◌&&◌}
-use mathlib.Core.Path.{◌≡◌, sym, ap, ◌∙◌}
+use mathlib.Core.Bool.{Bool, true, false, cond, not, ◌&&◌}
+use mathlib.Core.Path.{◌≡◌, refl, subst, sym, ap, ◌∙◌}
 use mathlib.Core.List.{List, ◌++◌}
 use native.Mathlib.Nat.{mul-suc, mul-le-mul_left}
 use native.Mathlib.Decide.{ℕ_discrete}
 use native.Mathlib.Omega.{arith}
-use lib.Dec.{eqb}
+use borrow.Author.Tests.{ltb-true, ltb-false}
+use lib.Dec.{eqb, ltb}
 use lib.ListN.{length, get_or, set, take, drop, length-set, length-append, length-drop}
-use lib.Seq.{get_or-set_same, get_or-set_other, length-take-le}
+use lib.Seq.{get_or-set_same, get_or-set_other, get_or-take, length-take-le}
+use Rattle.std.specs.Prelude.{Option, Some, None, MatchOption}
+use Rattle.std.specs.List.{position, position_or_len}
+use Rattle.std.proofs.lemmas.List.Sums.{prefix_len-le-length, prefix_len_passes, prefix_len_stops}
+use Rattle.answers.specs.declared.Edit.{Edit}
 use Rattle.shelf.specs.Shelf.{lowest}
 use Rattle.shelf.proofs.Lowest.{lowest_is_lowest, only_lowest}
 use Rattle.shelf.proofs.Pieces.{put_reads_back, put_keeps_others}
 use Rattle.seat.specs.declared.Seat.{Seat}
 use Rattle.steps.specs.Session.{Letter, place_of, no_place, nobody, letter_at, no_letter, found, with_place, list_of}
-use Rattle.steps.specs.Memory.{with_piece, shelf_size, place_in, letter_in, session_in, shelves_size, Bounded, found_in, with_seat}
+use Rattle.steps.specs.Memory.{with_piece, shelf_size, place_in, no_edit, edit_in, letter_in, session_in, shelves_size, Bounded, is_seated, index_in, found_in, with_seat}
 use Rattle.steps.specs.declared.walk.Walk.{Walk}
 use Rattle.steps.proofs.ListOf.{length_list_of, list_of_at, set_list_of}
 
@@ -33,9 +38,62 @@ module _ (walk : Walk) (bounded : Bounded walk) where
       let fewer : suc i ≤ 16 = omega (arith, bounded.seats_within_most) in
       omega (arith, bounded.slots_within_most, mul-suc (shelf_size walk) i, mul-le-mul_left (shelf_size walk) fewer)
 
-pub found_most : (walk : Walk) (sender number : ℕ) → found_in walk sender number ≤ walk.letters
-found_most walk sender number =
-    (lowest_is_lowest walk.letters (λ i. eqb (get_or walk.senders i 0) sender && eqb (get_or walk.numbers i 0) number)).most
+-- ---- the index of a seat
+
+by_seated : (seated : Bool) (at : ℕ) (found : Option ℕ) → found ≡ cond seated (Some at) None → MatchOption found (seated ≡ false) (λ i. (seated ≡ true) × (i ≡ at))
+by_seated true at found e = subst (λ (o : Option ℕ). MatchOption o (true ≡ false) (λ i. (true ≡ true) × (i ≡ at))) (sym e) (refl, refl)
+by_seated false at found e = subst (λ (o : Option ℕ). MatchOption o (false ≡ false) (λ i. (false ≡ true) × (i ≡ at))) (sym e) refl
+
+pub indexed : (walk : Walk) (k : ℕ) (found : Option ℕ) → found ≡ index_in walk k → MatchOption found (is_seated walk k ≡ false) (λ i. (is_seated walk k ≡ true) × (i ≡ k - 1))
+indexed walk k found e = by_seated (is_seated walk k) (k - 1) found e
+
+-- ---- the packet that carries an edit
+
+not_true : (b : Bool) → not b ≡ true → b ≡ false
+not_true true e = sym e
+not_true false e = refl
+
+not_false : (b : Bool) → not b ≡ false → b ≡ true
+not_false true e = refl
+not_false false e = sym e
+
+module _ (walk : Walk) (sender number : ℕ) (short : walk.letters ≤ length walk.edits) where
+  abbrev test : Edit → Bool
+  test edit = eqb edit.sender.0 sender && eqb edit.number.0 number
+
+  abbrev sent : List Edit
+  sent = take walk.letters walk.edits
+
+  abbrev first : ℕ
+  first = position_or_len test sent
+
+  sent_long : length sent ≡ walk.letters
+  sent_long = length-take-le walk.letters walk.edits short
+
+  same_edit : (k : ℕ) → k < walk.letters → get_or sent k no_edit ≡ edit_in walk k
+  same_edit k h = get_or-take walk.letters walk.edits k no_edit h
+
+  first_most : first ≤ walk.letters
+  first_most = omega (arith, prefix_len-le-length (λ e. not (test e)) sent, sent_long)
+
+  first_lowest : first ≡ found_in walk sender number
+  first_lowest =
+      only_lowest walk.letters (λ i. test (edit_in walk i)) first
+      (record {
+        most = first_most;
+        fails_below = λ k h. ap test (sym (same_edit k (omega (arith, first_most)))) ∙ not_true _ (prefix_len_passes (λ e. not (test e)) sent k no_edit h);
+        holds = λ h. ap test (sym (same_edit first h)) ∙ not_false _ (prefix_len_stops (λ e. not (test e)) sent no_edit (omega (arith, sent_long)));
+      })
+
+  abbrev Found : Option ℕ → Type 0
+  Found found = MatchOption found (found_in walk sender number ≡ walk.letters) (λ i. (i < walk.letters) × (i ≡ found_in walk sender number))
+
+  by_test : (there : Bool) → ltb first (length sent) ≡ there → Found (cond there (Some first) None)
+  by_test true e = (omega (arith, ltb-true _ _ e, sent_long), first_lowest)
+  by_test false e = omega (arith, ltb-false _ _ e, sent_long, first_lowest, first_most)
+
+  pub found_by : (found : Option ℕ) → found ≡ position test sent → Found found
+  found_by found e = subst Found (sym e) (by_test (ltb first (length sent)) refl)
 
 module _ (walk : Walk) (shelves packets : List ℕ) where
   pub place_held : (k : ℕ) → 1 ≤ k → k ≤ walk.n → place_of (session_in walk shelves packets) k ≡ place_in walk shelves (k - 1)
@@ -118,8 +176,7 @@ module _ (walk : Walk) (bounded : Bounded walk) (i : ℕ) (seat : Seat) (same : 
         sends_within_most = bounded.sends_within_most;
         same_session = each;
         seats_long = length-set walk.seats i seat ∙ bounded.seats_long;
-        senders_long = bounded.senders_long;
-        numbers_long = bounded.numbers_long;
+        edits_long = bounded.edits_long;
       }
     where
       each : (j : ℕ) → j < walk.n → (get_or (set walk.seats i seat) j nobody).n ≡ walk.n

@@ -15,14 +15,14 @@ use Rattle.answers.specs.Answers.{seat_no}
 use Rattle.answers.specs.declared.Answer.TheVariants.{Opened}
 use Rattle.packet.specs.Writing.{in_range}
 use Rattle.shelf.specs.Shelf.{slot_size, whole_slots}
-use Rattle.shelf.proofs.Pieces.{length_piece, put_reads_back, put_keeps_others}
+use Rattle.shelf.proofs.Pieces.{length_piece, length_put, put_reads_back, put_keeps_others}
 use Rattle.seat.specs.State.{counting}
 use Rattle.seat.specs.Opening.{open_answer, opened_seat, opened_shelf, OpenedAs}
 use Rattle.seat.specs.declared.Seat.{Seat}
 use Rattle.seat.specs.declared.Stepped.{Stepped}
 use Rattle.seat.proofs.OpenAnswers.{opening_answers_0}
 use Rattle.steps.specs.Session.{nobody, opened_place, opened, list_of}
-use Rattle.steps.specs.Memory.{piece, with_piece, place_in, letter_in, session_in, slots_most, shelves_size, Bounded, OpenedIn, AllOpened}
+use Rattle.steps.specs.Memory.{piece, with_piece, place_in, letter_in, session_in, slots_most, shelves_size, OpenedIn, AllOpened}
 use Rattle.steps.specs.declared.walk.Walk.{Walk}
 use Rattle.steps.proofs.Parts.{part_lent, part_back}
 use Rattle.steps.proofs.ListOf.{same_list_of}
@@ -47,21 +47,27 @@ module _ (n slots i : ℕ) (there : i < n) (seats_within_most : n ≤ 16) (few :
       (λ p. record { seat = opened_seat (opens zeros long p) n (seat_no (suc i)); shelf = opened_shelf (opens zeros long p) zeros })
       ∙ (λ p. record { seat = counting n (seat_no (suc i)); shelf = replicate (long p) 0 })
 
-  pub opened_at : (shelves : List ℕ) (stepped : Stepped) (after : List ℕ) → slots * slot_size * i + slots * slot_size ≤ length shelves
-      → OpenedAs n (seat_no (i + 1)) (take (slots * slot_size * i + slots * slot_size - slots * slot_size * i) (drop (slots * slot_size * i) shelves)) stepped after
-      → OpenedIn n slots i shelves stepped.seat (put_mid (slots * slot_size * i) (slots * slot_size * i + slots * slot_size - slots * slot_size * i) shelves after)
-  opened_at shelves stepped after inside lent =
+  pub opened_at : (shelves : List ℕ) (start end : ℕ) (stepped : Stepped) (after : List ℕ) → slots * slot_size * i + slots * slot_size ≤ length shelves
+      → start ≡ slots * slot_size * i → end ≡ slots * slot_size * i + slots * slot_size
+      → OpenedAs n (seat_no (i + 1)) (take (end - start) (drop start shelves)) stepped after
+      → OpenedIn n slots i shelves stepped.seat (put_mid start (end - start) shelves after)
+  opened_at shelves start end stepped after inside starts ends lent =
       let size = slots * slot_size in
       let long = length_piece size shelves i inside in
       let at : OpenedAs n (seat_no (suc i)) (piece size shelves i) stepped after
       = subst (λ (k : ℕ). OpenedAs n (seat_no k) (piece size shelves i) stepped after) (add-one i)
-      (subst (λ (shelf : List ℕ). OpenedAs n (seat_no (i + 1)) shelf stepped after) (part_lent size i shelves) lent) in
+      (subst (λ (shelf : List ℕ). OpenedAs n (seat_no (i + 1)) shelf stepped after) (part_lent size i shelves start end starts ends) lent) in
       let yields = opens (piece size shelves i) long in
       record {
         seat_is = at.next ∙ (λ p. opened_seat (yields p) n (seat_no (suc i)));
-        shelves_are = part_back size i shelves after
+        shelves_are = part_back size i shelves start end starts ends after
             ∙ ap (with_piece size shelves i) (at.shelf_after_is ∙ (λ p. opened_shelf (yields p) (piece size shelves i)) ∙ ap (λ (k : ℕ). replicate {A = ℕ} k 0) long);
       }
+
+pub opened_long : (n slots i : ℕ) (shelves : List ℕ) {seat : Seat} {shelves-left : List ℕ} → slots * slot_size * i + slots * slot_size ≤ length shelves
+    → OpenedIn n slots i shelves seat shelves-left → length shelves-left ≡ length shelves
+opened_long n slots i shelves inside at =
+    ap length at.shelves_are ∙ length_put (slots * slot_size) shelves i (replicate (slots * slot_size) 0) inside (length-replicate {A = ℕ} (slots * slot_size) 0)
 
 -- ---- one seat after another
 
@@ -99,32 +105,16 @@ module _ (n slots : ℕ) (seats_within_most : n ≤ 16) (few : slots ≤ slots_m
 
 -- ---- the session
 
-module _ (walk : Walk) (shelves : List ℕ) (seats_within_most : walk.n ≤ 16) (few : walk.slots ≤ slots_most) (no-sends : walk.sends ≡ 0) (no-letters : walk.letters ≡ 0)
-    (senders_long : length walk.senders ≡ 256) (numbers_long : length walk.numbers ≡ 256) (all : AllOpened walk.n walk.n walk.slots walk.seats shelves) where
-  opened_session : (packets : List ℕ) → session_in walk shelves packets ≡ opened walk.n walk.slots
-  unfolding session_in opened list_of
-  opened_session packets =
-      (λ p. record {
-        n = walk.n;
-        sends = no-sends p;
-        places = same_list_of walk.n (place_in walk shelves) (λ i. opened_place walk.n walk.slots (suc i)) each p;
-        letters = list_of (no-letters p) (letter_in walk packets);
-      })
-    where
-      each : (i : ℕ) → i < walk.n → place_in walk shelves i ≡ opened_place walk.n walk.slots (suc i)
-      each i h = (λ p. record { seat = all.seat_is i h p; shelf = all.shelf_is i h p }) ∙ sym (opened_place_is walk.n walk.slots i h seats_within_most few)
-
-  pub opened_walk : Bounded walk × ((packets : List ℕ) → session_in walk shelves packets ≡ opened walk.n walk.slots)
-  opened_walk = (
-    record {
-      seats_within_most = seats_within_most;
-      slots_within_most = few;
-      letters_most = omega arith;
-      sends_within_most = omega arith;
-      same_session = λ i h. ap (λ (s : Seat). s.n) (all.seat_is i h);
-      seats_long = all.long;
-      senders_long = senders_long;
-      numbers_long = numbers_long;
-    },
-    opened_session,
-  )
+pub opened_session : (walk : Walk) (shelves : List ℕ) → walk.n ≤ 16 → walk.slots ≤ slots_most → walk.sends ≡ 0 → walk.letters ≡ 0
+    → AllOpened walk.n walk.n walk.slots walk.seats shelves → (packets : List ℕ) → session_in walk shelves packets ≡ opened walk.n walk.slots
+unfolding session_in opened list_of
+opened_session walk shelves most few no-sends no-letters all packets =
+    (λ p. record {
+      n = walk.n;
+      sends = no-sends p;
+      places = same_list_of walk.n (place_in walk shelves) (λ i. opened_place walk.n walk.slots (suc i)) each p;
+      letters = list_of (no-letters p) (letter_in walk packets);
+    })
+  where
+    each : (i : ℕ) → i < walk.n → place_in walk shelves i ≡ opened_place walk.n walk.slots (suc i)
+    each i h = (λ p. record { seat = all.seat_is i h p; shelf = all.shelf_is i h p }) ∙ sym (opened_place_is walk.n walk.slots i h most few)

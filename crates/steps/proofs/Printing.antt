@@ -2,7 +2,7 @@
 use Prim.Native.Nat.{ℕ, suc, ◌+◌, ◌-◌, ◌≤◌, ◌<◌, min}
 use mathlib.Core.Bool.{true, false, ◌&&◌}
 use mathlib.Core.Path.{◌≡◌, refl, subst, sym, ap, ◌∙◌}
-use mathlib.Core.List.{List, [], ◌∷◌, ◌++◌, append_assoc, append-nil}
+use mathlib.Core.List.{List, [], ◌∷◌, ◌++◌, append-nil}
 use native.Mathlib.Nat.{min-eq_left, min-eq_right}
 use native.Mathlib.Numerals.{add-one}
 use native.Mathlib.Decide.{dec_le}
@@ -12,22 +12,22 @@ use lib.ListN.{length, take, drop, length-append, length-take}
 use lib.Seq.{sets, sets-eq, take_at, take_all, length-take-le, length-sets, take-append-add, get_or-take}
 use Rattle.lines.specs.Lines.{lines_of, read_step, read_opening}
 use Rattle.lines.specs.Kept.{line_most, NoFeed, first_line, other_lines}
-use Rattle.lines.specs.AnswerLine.{answer_most, Wrote}
+use Rattle.lines.specs.AnswerLine.{Wrote}
 use Rattle.lines.specs.declared.Opening.{Opening}
-use Rattle.lines.specs.declared.Opening.TheVariants as opening
+use Rattle.std.specs.Prelude.{Option, Some, None}
+use Rattle.answers.specs.Answers.{bare}
 use Rattle.lines.specs.declared.Step.{Step}
 use Rattle.lines.proofs.LongLines.{long_step, long_opening}
-use Rattle.lines.proofs.AnswerLength.{answer_line_short}
 use Rattle.lines.proofs.Cut.{cut_first, no_feed_none}
 use Rattle.steps.specs.Session.{Session, step_told, opened}
 use Rattle.steps.specs.Memory.{session_in, Bounded, Walks}
 use Rattle.steps.specs.Printed.{line_of, walked, bad_first, walked_from, printed_lines, printed}
-use Rattle.steps.specs.Course.{line_in, for_lines, still, Ready, EndedAs, KeptMore, LineTaken}
+use Rattle.steps.specs.Course.{line_in, for_lines, still, Ready, WalkingAs, EndedAs, KeptMore, LineTaken}
 use Rattle.steps.specs.declared.list.Line.{Line}
 use Rattle.steps.specs.declared.list.Stage.{Stage}
 use Rattle.steps.specs.declared.list.Stage.TheVariants.{First, Walking, Ended}
 use Rattle.steps.specs.declared.list.Course.{Course}
-use Rattle.steps.specs.declared.list.Taken.{Taken}
+use Rattle.steps.specs.declared.list.Answered.{Answered}
 use Rattle.steps.specs.declared.walk.Walk.{Walk}
 use Rattle.steps.specs.declared.walk.Walked.{Walked}
 
@@ -41,107 +41,84 @@ wrote_prints {out} {after} {bytes} {at} {next} wrote room =
 
 -- ---- a line after the first
 
-module _ (number at end : ℕ) (out out-left line : List ℕ) (before : Session) (walk : Walk) (shelves packets : List ℕ) (walked-on : Walked) (step : Step)
-    (is : step ≡ read_step line) (so : Walks (step_told before step) walked-on shelves packets)
-    (wrote : Wrote out at (line_of number walked-on.report) end out-left) (short : length (line_of number walked-on.report) ≤ answer_most) (room : at + answer_most ≤ length out) where
-  pub step_prints : (lines : List (List ℕ))
-      → take end out-left ++ for_lines Walking (number + 1) (session_in walked-on.walk shelves packets) lines ≡ take at out ++ walked number before (line ∷ lines)
-  unfolding for_lines walked
-  step_prints lines =
-      (λ p. wrote_prints wrote (omega arith) p ++ walked (add-one number p) (so.session_is p) lines)
-      ∙ append_assoc (take at out) (line_of number walked-on.report) (walked (suc number) (step_told before step).session lines)
-      ∙ (λ p. take at out ++ (line_of number (so.report_is p) ++ walked (suc number) (step_told before step).session lines))
-      ∙ (λ p. take at out ++ (line_of number (step_told before (is p)).report ++ walked (suc number) (step_told before (is p)).session lines))
-
-pub step_taken : (number at : ℕ) (out line : List ℕ) (before : Session) {end : ℕ} {out-left shelves packets : List ℕ} (walked-on : Walked) (step : Step) → step ≡ read_step line
-    → Walks (step_told before step) walked-on shelves packets → Wrote out at (line_of number walked-on.report) end out-left → length (line_of number walked-on.report) ≤ answer_most
-    → at + answer_most ≤ length out → (fresh : Line) → fresh.length ≡ 0 → length fresh.bytes ≡ line_most
-    → LineTaken number (λ lines. walked number before (line ∷ lines)) out at
-    (record { course = record { stage = Walking; number = number + 1; line = fresh; walk = walked-on.walk }; end = end }) shelves packets out-left
-unfolding for_lines walked
-step_taken number at out line before {end} {out-left} {shelves} {packets} walked-on step is so wrote short room fresh none long =
+pub step_taken : (number : ℕ) (line : List ℕ) (before : Session) {shelves packets : List ℕ} (walked-on : Walked) (step : Option Step) (course : Course) → step ≡ read_step line
+    → Walks (step_told before step) walked-on shelves packets → WalkingAs (number + 1) walked-on.walk course
+    → LineTaken number (λ lines. walked number before (line ∷ lines)) (record { course = course; line = Some (number, walked-on.report) }) shelves packets
+unfolding walked
+step_taken number line before {shelves} {packets} walked-on step course is so goes-on =
     record {
-      prints = step_prints number at end out out-left line before walked-on.walk shelves packets walked-on step is so wrote short room;
-      no_more = refl;
-      fresh = none;
-      line_long = long;
-      bounded = so.bounded;
-      low = omega (arith, wrote.ends);
-      high = omega (arith, wrote.ends);
-      counts = omega arith;
+      prints = λ lines.
+          ap (λ (l : List ℕ). line_of number walked-on.report ++ l) (goes-on.walks shelves packets lines)
+          ∙ (λ p. line_of number (so.report_is p) ++ walked (add-one number p) (so.session_is p) lines)
+          ∙ (λ p. line_of number (step_told before (is p)).report ++ walked (suc number) (step_told before (is p)).session lines);
+      no_more = goes-on.walks shelves packets [];
+      fresh = goes-on.fresh;
+      line_long = goes-on.line_long;
+      bounded = subst Bounded (sym goes-on.walk_is) so.bounded;
+      counts = omega (arith, goes-on.number_is);
     }
 
 -- ---- line one
 
-pub good_opening : (n slots : ℕ) (lines : List (List ℕ)) → (leb 1 n && leb n 16 && leb slots 8) ≡ true → walked_from (opening.Session n slots) lines ≡ walked 1 (opened n slots) lines
-good_opening n slots lines so = rw so
+pub good_opening : (opening : Opening) (lines : List (List ℕ)) → (leb 1 opening.n && leb opening.n 16 && leb opening.slots 8) ≡ true
+    → walked_from (Some opening) lines ≡ walked 1 (opened opening.n opening.slots) lines
+good_opening opening lines so = rw so
 
-pub bad_opening : (n slots : ℕ) (lines : List (List ℕ)) → (leb 1 n && leb n 16 && leb slots 8) ≡ false → walked_from (opening.Session n slots) lines ≡ bad_first
-bad_opening n slots lines so = rw so
+pub bad_opening : (opening : Opening) (lines : List (List ℕ)) → (leb 1 opening.n && leb opening.n 16 && leb opening.slots 8) ≡ false
+    → walked_from (Some opening) lines ≡ bad_first
+bad_opening opening lines so = rw so
 
 -- the same line taken, where the same is printed before it
-pub taken_alike : {number : ℕ} {before other : List (List ℕ) → List ℕ} {out : List ℕ} {at : ℕ} {taken : Taken} {shelves packets out-left : List ℕ}
-    → ((lines : List (List ℕ)) → before lines ≡ other lines) → LineTaken number before out at taken shelves packets out-left
-    → LineTaken number other out at taken shelves packets out-left
-taken_alike {out = out} {at = at} alike so =
+pub taken_alike : {number : ℕ} {before other : List (List ℕ) → List ℕ} {answered : Answered} {shelves packets : List ℕ}
+    → ((lines : List (List ℕ)) → before lines ≡ other lines) → LineTaken number before answered shelves packets → LineTaken number other answered shelves packets
+taken_alike alike so =
     record {
-      prints = λ lines. so.prints lines ∙ ap (λ (l : List ℕ). take at out ++ l) (alike lines);
+      prints = λ lines. so.prints lines ∙ alike lines;
       no_more = so.no_more;
       fresh = so.fresh;
       line_long = so.line_long;
       bounded = so.bounded;
-      low = so.low;
-      high = so.high;
       counts = so.counts;
     }
 
 -- a bad first line ends the list
-pub list_refused : {number at end : ℕ} {out out-left : List ℕ} {walk : Walk} {course : Course} {shelves packets : List ℕ} → Wrote out at bad_first end out-left → EndedAs walk course
-    → Bounded walk → at + answer_most ≤ length out → LineTaken number (λ lines. bad_first) out at (record { course = course; end = end }) shelves packets out-left
-list_refused {at = at} {out = out} {course = course} {shelves = shelves} {packets = packets} wrote ended bounded room =
+pub list_refused : {number : ℕ} {walk : Walk} {course : Course} {shelves packets : List ℕ} → EndedAs walk course → Bounded walk
+    → LineTaken number (λ lines. bad_first) (record { course = course; line = Some (0, bare 21) }) shelves packets
+list_refused {shelves = shelves} {packets = packets} ended bounded =
     record {
-      prints = λ lines.
-          (λ p. wrote_prints wrote (omega (arith, short)) p ++ ended.nothing shelves packets lines p)
-          ∙ append-nil (take at out ++ bad_first);
+      prints = λ lines. ap (λ (l : List ℕ). bad_first ++ l) (ended.nothing shelves packets lines) ∙ append-nil bad_first;
       no_more = ended.nothing shelves packets [];
       fresh = ended.fresh;
       line_long = ended.line_long;
       bounded = subst Bounded (sym ended.walk_is) bounded;
-      low = omega (arith, wrote.ends);
-      high = omega (arith, wrote.ends, short);
       counts = omega (arith, ended.number_is);
     }
-  where
-    short : length bad_first ≤ answer_most
-    short = answer_line_short (record { number_fits = omega arith; answer_fits = omega arith; sender_fits = omega arith; edit_fits = omega arith })
 
 -- line one is good
-pub list_begun : (session : Session) (number at : ℕ) (line : Line) (walk : Walk) → line.length ≡ 0 → length line.bytes ≡ line_most → Bounded walk → (packets out : List ℕ) {shelves : List ℕ}
-    → session_in walk shelves packets ≡ session
-    → LineTaken number (walked 1 session) out at (record { course = record { stage = Walking; number = 1; line = line; walk = walk }; end = at }) shelves packets out
-unfolding for_lines walked
-list_begun session number at line walk fresh long bounded packets out is =
+pub list_begun : (session : Session) (number : ℕ) (course : Course) (walk : Walk) (packets : List ℕ) {shelves : List ℕ} → WalkingAs 1 walk course → Bounded walk
+    → session_in walk shelves packets ≡ session → LineTaken number (walked 1 session) (record { course = course; line = None }) shelves packets
+unfolding walked
+list_begun session number course walk packets {shelves} goes-on bounded is =
     record {
-      prints = λ lines. λ p. take at out ++ walked 1 (is p) lines;
-      no_more = refl;
-      fresh = fresh;
-      line_long = long;
-      bounded = bounded;
-      low = omega arith;
-      high = omega arith;
-      counts = omega arith;
+      prints = λ lines. goes-on.walks shelves packets lines ∙ ap (λ (s : Session). walked 1 s lines) is;
+      no_more = goes-on.walks shelves packets [];
+      fresh = goes-on.fresh;
+      line_long = goes-on.line_long;
+      bounded = subst Bounded (sym goes-on.walk_is) bounded;
+      counts = omega (arith, goes-on.number_is);
     }
 
 -- nothing has come, and all is to be printed
-pub started : (line : Line) (walk : Walk) → line.length ≡ 0 → length line.bytes ≡ line_most → Bounded walk
-    → Ready (record { stage = First; number = 0; line = line; walk = walk }) × (◌≡◌ {A = ℕ} 0 0)
-    × ((shelves packets text : List ℕ) → still (record { stage = First; number = 0; line = line; walk = walk }) shelves packets text ≡ printed text)
-unfolding still for_lines
-started line walk fresh long bounded =
-    (record { bounded = bounded; short = omega arith; long = long; no_feed = subst NoFeed (sym none) no_feed_none }, refl, λ shelves packets text. λ p. printed_lines (lines_of (none p ++ text)))
-  where
-    none : line_in line ≡ []
-    none = λ p. take (fresh p) line.bytes
+module _ (line : Line) (walk : Walk) (fresh : line.length ≡ 0) (long : length line.bytes ≡ line_most) (bounded : Bounded walk) where
+  none : line_in line ≡ []
+  none = λ p. take (fresh p) line.bytes
+
+  pub start_ready : Ready (record { stage = First; number = 0; line = line; walk = walk })
+  start_ready = record { bounded = bounded; short = omega arith; long = long; no_feed = subst NoFeed (sym none) no_feed_none }
+
+  pub start_prints : (shelves packets text : List ℕ) → still (record { stage = First; number = 0; line = line; walk = walk }) shelves packets text ≡ printed text
+  unfolding still for_lines
+  start_prints shelves packets text = λ p. printed_lines (lines_of (none p ++ text))
 
 -- ---- a line, whichever it is
 
@@ -159,17 +136,15 @@ module _ (stage : Stage) (number : ℕ) (session : Session) (line : List ℕ) (l
   ended_line is = λ p. for_lines (sym is p) number session (line ∷ lines)
 
 -- a list that has ended goes on with nothing
-pub list_ended : {number : ℕ} {before : List (List ℕ) → List ℕ} (at : ℕ) (out : List ℕ) {walk : Walk} {course : Course} {shelves packets : List ℕ} → EndedAs walk course → Bounded walk
-    → ((lines : List (List ℕ)) → [] ≡ before lines) → LineTaken number before out at (record { course = course; end = at }) shelves packets out
-list_ended at out {course = course} {shelves = shelves} {packets = packets} ended bounded none =
+pub list_ended : {number : ℕ} {before : List (List ℕ) → List ℕ} {walk : Walk} {course : Course} {shelves packets : List ℕ} → EndedAs walk course → Bounded walk
+    → ((lines : List (List ℕ)) → [] ≡ before lines) → LineTaken number before (record { course = course; line = None }) shelves packets
+list_ended {shelves = shelves} {packets = packets} ended bounded none =
     record {
-      prints = λ lines. ap (λ (l : List ℕ). take at out ++ l) (ended.nothing shelves packets lines ∙ none lines);
+      prints = λ lines. ended.nothing shelves packets lines ∙ none lines;
       no_more = ended.nothing shelves packets [];
       fresh = ended.fresh;
       line_long = ended.line_long;
       bounded = subst Bounded (sym ended.walk_is) bounded;
-      low = omega arith;
-      high = omega arith;
       counts = omega (arith, ended.number_is);
     }
 
@@ -180,9 +155,9 @@ long_alike : (stage : Stage) (number : ℕ) (session : Session) (one other : Lis
     → for_lines stage number session (one ∷ lines) ≡ for_lines stage number session (other ∷ lines)
 unfolding for_lines printed_lines walked
 long_alike First number session one other lines long-one long-other =
-    ap (λ (o : Opening). walked_from o lines) (long_opening one long-one ∙ sym (long_opening other long-other))
+    ap (λ (o : Option Opening). walked_from o lines) (long_opening one long-one ∙ sym (long_opening other long-other))
 long_alike Walking number session one other lines long-one long-other =
-    ap (λ (s : Step). line_of number (step_told session s).report ++ walked (suc number) (step_told session s).session lines) (long_step one long-one ∙ sym (long_step other long-other))
+    ap (λ (s : Option Step). line_of number (step_told session s).report ++ walked (suc number) (step_told session s).session lines) (long_step one long-one ∙ sym (long_step other long-other))
 long_alike Ended number session one other lines long-one long-other = refl
 
 pub no_feed_start : (p : List ℕ) (n : ℕ) → NoFeed p → NoFeed (take n p)

@@ -8,7 +8,8 @@ use native.Mathlib.Nat.{mul-suc, mul-le-mul_left}
 use native.Mathlib.Omega.{arith}
 use borrow.Author.Tests.{le-leb, lt-leb}
 use lib.Dec.{leb}
-use lib.ListN.{length, get_or, set, take, length-set}
+use lib.ListN.{length, set, take, drop, length-set}
+use borrow.Rule.Slice.PartMut.{put_mid}
 use lib.Seq.{get_or-set_same, get_or-set_other, take_at}
 use Rattle.answers.specs.Answers.{report}
 use Rattle.answers.specs.declared.Answer.{Answer}
@@ -19,12 +20,15 @@ use Rattle.packet.specs.Writing.{output_after}
 use Rattle.shelf.proofs.Pieces.{length_piece, put_reads_back, put_keeps_others}
 use Rattle.seat.specs.Sending.{kind_of, packet_sent, sent_seat, send_refusals, send_answer, seat_after}
 use Rattle.seat.specs.declared.Seat.{Seat}
+use Rattle.seat.specs.declared.Stepped.{Stepped}
 use Rattle.seat.specs.declared.Wish.{Wish}
 use Rattle.seat.proofs.Sent.{sending_keeps_seats}
 use Rattle.steps.specs.Session.{Letter, Session, Told, unknown, nobody, sends_most, packet_most, room, counted, letters_after, sent, send_told, list_of}
-use Rattle.steps.specs.Memory.{piece, with_piece, seat_in, shelf_in, place_in, packet_in, letter_in, session_in, packets_size, Bounded, Walks, is_seated, with_send, with_seat, with_letter, SentAt}
+use Rattle.steps.specs.Memory.{piece, with_piece, seat_in, shelf_in, place_in, packet_in, no_edit, edit_in, letter_in, session_in, packets_size, Bounded, Walks, is_seated, with_send, with_seat, with_edit, walked_to, SentEmpty, SentAt}
 use Rattle.steps.specs.declared.walk.Walk.{Walk}
 use Rattle.steps.specs.declared.walk.Walked.{Walked}
+use Rattle.steps.proofs.Parts.{part_kept}
+use Rattle.steps.proofs.AtSeat.{sent_at}
 use Rattle.steps.proofs.ListOf.{same_list_of, set_list_of}
 use Rattle.steps.proofs.Held.{back_as_long, place_held, still_bounded}
 use Rattle.steps.proofs.Walking.{steps_in_session, seated_is, is_seated_lem}
@@ -62,7 +66,7 @@ module _ (walk : Walk) (shelves packets : List ℕ) (k : ℕ) (wish : Wish) wher
 
 -- the packet that was sent last, and those before it
 module _ (walk : Walk) (shelves packets : List ℕ) (i : ℕ) (next : Seat) (packet : List ℕ) (there : i < walk.n) (seats_within_most : walk.n ≤ 16) (room-left : walk.letters < 256)
-    (seats_long : length walk.seats ≡ 16) (senders_long : length walk.senders ≡ 256) (numbers_long : length walk.numbers ≡ 256) (packets-long : length packets ≡ packets_size)
+    (seats_long : length walk.seats ≡ 16) (edits_long : length walk.edits ≡ 256) (packets-long : length packets ≡ packets_size)
     (packet_long : length packet ≡ packet_length walk.n 0) where
   inside : (j : ℕ) → j < 256 → packet_most * j + packet_most ≤ length packets
   inside j h = let fewer : suc j ≤ 256 = h in omega (arith, mul-suc packet_most j, mul-le-mul_left packet_most fewer)
@@ -84,7 +88,7 @@ module _ (walk : Walk) (shelves packets : List ℕ) (i : ℕ) (next : Seat) (pac
     letters_kept : list_of walk.letters (letter_in walk (with_piece packet_most packets walk.letters bytes)) ≡ list_of walk.letters (letter_in walk packets)
     letters_kept =
         same_list_of walk.letters (letter_in walk (with_piece packet_most packets walk.letters bytes)) (letter_in walk packets)
-        (λ j h. λ p. record { sender = get_or walk.senders j 0; number = get_or walk.numbers j 0; bytes = kept_packet j h p })
+        (λ j h. λ p. record { sender = (edit_in walk j).sender.0; number = (edit_in walk j).number.0; bytes = kept_packet j h p })
 
     new_packet : (rest : List ℕ) → bytes ≡ packet ++ rest → packet_in walk (with_piece packet_most packets walk.letters bytes) walk.letters ≡ packet
     new_packet rest is =
@@ -92,7 +96,7 @@ module _ (walk : Walk) (shelves packets : List ℕ) (i : ℕ) (next : Seat) (pac
         ∙ take_at packet rest (packet_length walk.n 0) packet_long
 
     letters_more : (edit : Edit) (rest : List ℕ) → bytes ≡ packet ++ rest
-        → list_of (walk.letters + 1) (letter_in (with_letter walk (Done edit)) (with_piece packet_most packets walk.letters bytes))
+        → list_of (walk.letters + 1) (letter_in (with_edit walk (Done edit)) (with_piece packet_most packets walk.letters bytes))
         ≡ letters_after (Done edit) packet (list_of walk.letters (letter_in walk packets))
     unfolding list_of
     letters_more edit rest is =
@@ -100,21 +104,21 @@ module _ (walk : Walk) (shelves packets : List ℕ) (i : ℕ) (next : Seat) (pac
         ∙ (λ p. same_list_of walk.letters after (letter_in walk packets) kept p ++ (last p ∷ []))
       where
         after : ℕ → Letter
-        after = letter_in (with_letter walk (Done edit)) (with_piece packet_most packets walk.letters bytes)
+        after = letter_in (with_edit walk (Done edit)) (with_piece packet_most packets walk.letters bytes)
 
         kept : (j : ℕ) → j < walk.letters → after j ≡ letter_in walk packets j
         kept j h =
             λ p. record {
-              sender = get_or-set_other walk.senders walk.letters j edit.sender.0 0 (λ e. omega arith) p;
-              number = get_or-set_other walk.numbers walk.letters j edit.number.0 0 (λ e. omega arith) p;
+              sender = (get_or-set_other walk.edits walk.letters j edit no_edit (λ e. omega arith) p).sender.0;
+              number = (get_or-set_other walk.edits walk.letters j edit no_edit (λ e. omega arith) p).number.0;
               bytes = kept_packet j h p;
             }
 
         last : after walk.letters ≡ record { sender = edit.sender.0; number = edit.number.0; bytes = packet }
         last =
             λ p. record {
-              sender = get_or-set_same walk.senders walk.letters edit.sender.0 0 (omega arith) p;
-              number = get_or-set_same walk.numbers walk.letters edit.number.0 0 (omega arith) p;
+              sender = (get_or-set_same walk.edits walk.letters edit no_edit (omega arith) p).sender.0;
+              number = (get_or-set_same walk.edits walk.letters edit no_edit (omega arith) p).number.0;
               bytes = new_packet rest is p;
             }
 
@@ -134,7 +138,7 @@ module _ (walk : Walk) (shelves packets : List ℕ) (i : ℕ) (next : Seat) (pac
   unsent bytes long = λ p. record { n = walk.n; sends = walk.sends + 1; places = places_sent p; letters = letters_kept bytes long p }
 
   session_sent : (answer : Answer) → length (output_after answer packet (piece packet_most packets walk.letters)) ≡ packet_most
-      → session_in (with_seat (with_letter (with_send walk) answer) i next) shelves
+      → session_in (with_seat (with_edit (with_send walk) answer) i next) shelves
       (with_piece packet_most packets walk.letters (output_after answer packet (piece packet_most packets walk.letters)))
       ≡ after_send answer
   unfolding session_in after_send
@@ -155,18 +159,17 @@ module _ (walk : Walk) (bounded : Bounded walk) (few : walk.sends < sends_most) 
         sends_within_most = omega arith;
         same_session = bounded.same_session;
         seats_long = bounded.seats_long;
-        senders_long = bounded.senders_long;
-        numbers_long = bounded.numbers_long;
+        edits_long = bounded.edits_long;
       }
 
-  keeps_n : (answer : Answer) → (with_letter (with_send walk) answer).n ≡ walk.n
+  keeps_n : (answer : Answer) → (with_edit (with_send walk) answer).n ≡ walk.n
   keeps_n (Done edit) = refl
   keeps_n Opened = refl
   keeps_n Shelved = refl
   keeps_n NothingReady = refl
   keeps_n (Refused refusal) = refl
 
-  still_bounded_sent : (answer : Answer) → Bounded (with_letter (with_send walk) answer)
+  still_bounded_sent : (answer : Answer) → Bounded (with_edit (with_send walk) answer)
   still_bounded_sent (Done edit) =
       record {
         seats_within_most = bounded.seats_within_most;
@@ -175,8 +178,7 @@ module _ (walk : Walk) (bounded : Bounded walk) (few : walk.sends < sends_most) 
         sends_within_most = omega arith;
         same_session = bounded.same_session;
         seats_long = bounded.seats_long;
-        senders_long = length-set walk.senders walk.letters edit.sender.0 ∙ bounded.senders_long;
-        numbers_long = length-set walk.numbers walk.letters edit.number.0 ∙ bounded.numbers_long;
+        edits_long = length-set walk.edits walk.letters edit ∙ bounded.edits_long;
       }
   still_bounded_sent Opened = counted_bounded
   still_bounded_sent Shelved = counted_bounded
@@ -213,7 +215,7 @@ module _ (walk : Walk) (bounded : Bounded walk) (few : walk.sends < sends_most) 
       record {
         report_is = ap (λ (w : Walked). w.report) at.walked_is ∙ ap report same_answer ∙ sym (ap (λ (t : Told). t.report) told);
         session_is = (λ p. session_in (at.walked_is p).walk shelves (at.packets_are p))
-            ∙ session_sent walk shelves packets (k - 1) next packet there bounded.seats_within_most (omega (arith, bounded.letters_most)) bounded.seats_long bounded.senders_long bounded.numbers_long packets-long packet_long ans out-long
+            ∙ session_sent walk shelves packets (k - 1) next packet there bounded.seats_within_most (omega (arith, bounded.letters_most)) bounded.seats_long bounded.edits_long packets-long packet_long ans out-long
             ∙ (λ p. record {
               n = walk.n;
               sends = walk.sends + 1;
@@ -223,5 +225,24 @@ module _ (walk : Walk) (bounded : Bounded walk) (few : walk.sends < sends_most) 
             })
             ∙ sym (ap (λ (t : Told). t.session) told);
         bounded = subst (λ (w : Walked). Bounded w.walk) (sym at.walked_is)
-            (still_bounded (with_letter (with_send walk) ans) (still_bounded_sent walk bounded few ans) (k - 1) next (same ∙ sym (keeps_n walk bounded few ans)));
+            (still_bounded (with_edit (with_send walk) ans) (still_bounded_sent walk bounded few ans) (k - 1) next (same ∙ sym (keeps_n walk bounded few ans)));
       }
+
+-- a send at the seat at an index, which is lent room from start to end
+pub sent_walks : (walk : Walk) → Bounded walk → walk.sends < sends_most → (shelves packets : List ℕ) → length packets ≡ packets_size
+    → (k i : ℕ) → (is_seated walk k ≡ true) × (i ≡ k - 1) → (wish : Wish) (noted : Walk) (stepped : Stepped) (after : List ℕ) (walked : Walked) (start end : ℕ)
+    → start ≡ packet_most * walk.letters → end ≡ packet_most * walk.letters + packet_most
+    → length after ≡ length (take (end - start) (drop start packets))
+    → SentEmpty (seat_in walk i) wish (take (end - start) (drop start packets)) stepped after
+    → noted ≡ with_edit (with_send walk) stepped.answer → walked ≡ walked_to noted i stepped.seat stepped.answer
+    → Walks (send_told (session_in walk shelves packets) k wish) walked shelves (put_mid start (end - start) packets after)
+sent_walks walk bounded few shelves packets packets-long k i so wish noted stepped after walked start end starts ends as-long sent noting moved =
+    send_walks walk bounded few shelves packets k so.0 wish packets-long walked _
+    (subst (λ (j : ℕ). SentAt (with_send walk) j wish packets walked (put_mid start (end - start) packets after)) so.1
+    (sent_at (with_send walk) i packets stepped after walked start end wish noted starts ends sent noting moved))
+    (part_kept packet_most walk.letters packets start end starts ends after inside as-long)
+  where
+    inside : packet_most * walk.letters + packet_most ≤ length packets
+    inside =
+        let fewer : suc walk.letters ≤ 256 = omega (arith, bounded.letters_most) in
+        omega (arith, mul-suc packet_most walk.letters, mul-le-mul_left packet_most fewer)

@@ -1,30 +1,30 @@
 -- Text that comes in pieces: up to a line feed or to a piece's end, a whole piece, and the end of the input.
-use Prim.Native.Nat.{ℕ, ◌+◌, ◌*◌, ◌-◌, ◌≤◌, ◌<◌}
+use Prim.Native.Nat.{ℕ, suc, ◌+◌, ◌*◌, ◌-◌, ◌≤◌, ◌<◌}
 use mathlib.Core.Bool.{Bool, true, false}
 use mathlib.Core.Path.{◌≡◌, refl, subst, sym, ap, ◌∙◌}
 use mathlib.Core.List.{List, [], ◌∷◌, ◌++◌, append_assoc, append-nil}
-use native.Mathlib.Numerals.{add-one}
 use native.Mathlib.Decide.{dec_lt}
 use native.Mathlib.Omega.{arith}
 use borrow.Author.Tests.{eqb-true, eqb-false}
 use lib.Dec.{eqb}
-use lib.ListN.{length, get_or, take, drop, length-append, length-take, length-drop, take-append-drop, get_or-append}
-use lib.Seq.{length-take-le, take_all, drop-length, drop-drop, drop-cons, get_or-take, get_or-drop, get_or-append-add}
+use lib.ListN.{length, get_or, take, length-append, length-take, length-drop, take-append-drop, get_or-append}
+use lib.Seq.{length-take-le, drop-cons, get_or-take, get_or-append-add}
 use Rattle.lines.specs.Lines.{line_feed, lines_of, words, read_numbers}
 use Rattle.lines.specs.Kept.{line_most, NoFeed}
-use Rattle.lines.specs.AnswerLine.{answer_most}
+use Rattle.lines.specs.AnswerLine.{answer_most, Wrote}
 use Rattle.lines.proofs.Cut.{cut_feed, cut_last, no_feed_none}
 use Rattle.steps.specs.Session.{Session}
 use Rattle.steps.specs.Memory.{session_in}
 use Rattle.steps.specs.Printed.{walked, printed_lines}
-use Rattle.steps.specs.Course.{line_in, for_lines, for_course, still, Ready, LineEnd, KeptMore, LineTaken, TextTaken, PieceTaken, done_at, is_done, Finished}
+use Rattle.steps.specs.Course.{text_of, line_in, for_lines, for_course, still, Ready, KeptMore, CourseKept, LineTaken, PieceTaken, done_at, is_done, Finished}
 use Rattle.steps.specs.declared.list.Line.{Line}
 use Rattle.steps.specs.declared.list.Stage.{Stage}
 use Rattle.steps.specs.declared.list.Stage.TheVariants.{First, Walking, Ended}
 use Rattle.steps.specs.declared.list.Course.{Course}
-use Rattle.steps.specs.declared.list.Taken.{Taken}
-use Rattle.steps.specs.declared.list.Went.{Went}
-use Rattle.steps.proofs.Printing.{kept_alike, no_feed_start}
+use Rattle.steps.specs.declared.list.Answered.{Answered}
+use Rattle.lines.proofs.Writing.{wrote_long}
+use Rattle.lines.proofs.Places.{FirstAt, behind, behind_is}
+use Rattle.steps.proofs.Printing.{wrote_prints, kept_alike, no_feed_start}
 
 no_feed_joined : (p q : List ℕ) → NoFeed p → NoFeed q → NoFeed (p ++ q)
 no_feed_joined p q one other =
@@ -38,142 +38,119 @@ no_feed_joined p q one other =
           ];
     }
 
--- ---- up to a line feed, or to the end
+-- ---- where a line feed first stands
 
-module _ (course : Course) (text : List ℕ) (from feed : ℕ) (next : Line) (ready : Ready course) (ends : LineEnd text from feed)
-    (kept : KeptMore course.line (take (feed - from) (drop from text)) next) where
-  abbrev part : List ℕ
-  part = take (feed - from) (drop from text)
+-- text up to its first line feed, and all of a text that has none
+module _ (text : List ℕ) (place : ℕ) (at : FirstAt line_feed text place) where
+  pub before_feed : NoFeed (take place text)
+  before_feed =
+      record {
+        none = λ k h e.
+            let below : k < place = omega (arith, length-take place text) in
+            at.not_before k below (sym (get_or-take place text k 0 below) ∙ e);
+      }
 
+  pub at_feed : place < length text → text ≡ take place text ++ (line_feed ∷ behind text place)
+  at_feed there =
+      sym (take-append-drop place text)
+      ∙ ap (λ (l : List ℕ). take place text ++ l) (drop-cons text place 0 there ∙ (λ p. at.there there p ∷ sym (behind_is text place) p))
+
+pub no_feed_at_all : (text : List ℕ) → FirstAt line_feed text (length text) → NoFeed text
+no_feed_at_all text at = record { none = at.not_before }
+
+-- ---- more text is kept
+
+module _ (course : Course) (text : List ℕ) (next : Line) (ready : Ready course) (free : NoFeed text) (kept : KeptMore course.line text next) where
   abbrev after : Course
   after = record { stage = course.stage; number = course.number; line = next; walk = course.walk }
 
-  part_no_feed : NoFeed (take (feed - from) (drop from text))
-  part_no_feed =
-      record {
-        none = λ k h e.
-            let below : k < feed - from = omega (arith, length-take (feed - from) (drop from text)) in
-            ends.no_feed (from + k) (omega arith) (omega arith)
-            (sym (get_or-take (feed - from) (drop from text) k 0 below ∙ get_or-drop from text k 0) ∙ e);
-      }
+  line_no_feed : NoFeed (line_in course.line ++ text)
+  line_no_feed = no_feed_joined _ _ ready.no_feed free
 
-  line_no_feed : NoFeed (line_in course.line ++ take (feed - from) (drop from text))
-  line_no_feed = no_feed_joined _ _ ready.no_feed part_no_feed
-
-  pub kept_ready : Ready after
-  kept_ready =
-      record {
-        bounded = ready.bounded;
-        short = kept.short;
-        long = kept.long;
-        no_feed = subst NoFeed (sym kept.line_is) (no_feed_start _ line_most line_no_feed);
-      }
-
-  kept_still : (shelves packets rest : List ℕ) → still after shelves packets rest ≡ still course shelves packets (part ++ rest)
+  kept_still : (shelves packets rest : List ℕ) → still after shelves packets rest ≡ still course shelves packets (text ++ rest)
   unfolding still
   kept_still shelves packets rest =
       let session = session_in course.walk shelves packets in
       ap (λ (l : List ℕ). for_lines course.stage course.number session (lines_of (l ++ rest))) kept.line_is
-      ∙ kept_alike course.stage course.number session (line_in course.line ++ part) rest line_no_feed
-      ∙ ap (λ (l : List ℕ). for_lines course.stage course.number session (lines_of l)) (append_assoc (line_in course.line) part rest)
+      ∙ kept_alike course.stage course.number session (line_in course.line ++ text) rest line_no_feed
+      ∙ ap (λ (l : List ℕ). for_lines course.stage course.number session (lines_of l)) (append_assoc (line_in course.line) text rest)
 
-  module _ (shelves packets out : List ℕ) (at : ℕ) where
-    pub piece_ends : from < length text → feed ≡ length text
-        → TextTaken course text from shelves packets out at (record { course = after; end = at; next = feed }) shelves packets out
-    piece_ends some e =
-        record {
-          prints = λ rest.
-              (λ p. take at out ++ still after shelves packets (gone p ++ rest))
-              ∙ ap (λ (l : List ℕ). take at out ++ l) (kept_still shelves packets rest)
-              ∙ (λ p. take at out ++ still course shelves packets (whole p ++ rest));
-          ready = kept_ready;
-          further = omega arith;
-          inside = omega arith;
-          high = omega arith;
-          counts = omega arith;
-        }
-      where
-        gone : drop feed text ≡ []
-        gone = ap (λ (k : ℕ). drop k text) e ∙ drop-length text
-
-        whole : take (feed - from) (drop from text) ≡ drop from text
-        whole = take_all (feed - from) (drop from text) (omega (arith, length-drop from text))
-
-    pub line_ends : (taken : Taken) (shelves-left packets-left out-left : List ℕ) → feed < length text
-        → LineTaken course.number (λ lines. for_course after shelves packets (line_in next ∷ lines)) out at taken shelves-left packets-left out-left
-        → TextTaken course text from shelves packets out at (record { course = taken.course; end = taken.end; next = feed + 1 }) shelves-left packets-left out-left
-    unfolding still
-    line_ends taken shelves-left packets-left out-left there so =
-        record {
-          prints = λ rest.
-              (λ p. take taken.end out-left ++ for_course taken.course shelves-left packets-left (lines_of (none p ++ (drop (feed + 1) text ++ rest))))
-              ∙ so.prints (lines_of (drop (feed + 1) text ++ rest))
-              ∙ ap (λ (l : List (List ℕ)). take at out ++ for_course after shelves packets l) (sym (cut_feed (line_in next) (drop (feed + 1) text ++ rest) kept_ready.no_feed))
-              ∙ ap (λ (l : List ℕ). take at out ++ l) (kept_still shelves packets (line_feed ∷ (drop (feed + 1) text ++ rest)))
-              ∙ ap (λ (l : List ℕ). take at out ++ still course shelves packets l) (sym (append_assoc part (line_feed ∷ drop (feed + 1) text) rest) ∙ ap (λ (l : List ℕ). l ++ rest) (sym split));
-          ready = record {
-            bounded = so.bounded;
-            short = omega (arith, so.fresh);
-            long = so.line_long;
-            no_feed = subst NoFeed (sym none) no_feed_none;
-          };
-          further = omega (arith, ends.low);
-          inside = omega arith;
-          high = so.high;
-          counts = so.counts;
-        }
-      where
-        none : line_in taken.course.line ≡ []
-        none = λ p. take (so.fresh p) taken.course.line.bytes
-
-        split : drop from text ≡ part ++ (line_feed ∷ drop (feed + 1) text)
-        split =
-            let e : from + (feed - from) ≡ feed = omega (arith, ends.low) in
-            sym (take-append-drop (feed - from) (drop from text))
-            ∙ ap (λ (l : List ℕ). part ++ l)
-            (drop-drop (feed - from) from text ∙ ap (λ (k : ℕ). drop k text) e ∙ drop-cons text feed 0 there
-            ∙ (λ p. ends.at_feed there p ∷ drop (sym (add-one feed) p) text))
+  pub course_kept : CourseKept course text after
+  course_kept =
+      record {
+        ready = record {
+          bounded = ready.bounded;
+          short = kept.short;
+          long = kept.long;
+          no_feed = subst NoFeed (sym kept.line_is) (no_feed_start _ line_most line_no_feed);
+        };
+        number_is = refl;
+        still_is = kept_still;
+      }
 
 -- ---- a whole piece
 
 -- so far: what is printed, and what is still to be printed, are what was to be printed
-pub record Going (course : Course) (text shelves₀ packets₀ : List ℕ) (room : ℕ) (shelves packets out : List ℕ) (current : Course) (end from : ℕ) : Type 0 where
-  pub inside : from ≤ length text
-  pub prints : (rest : List ℕ) → take end out ++ still current shelves packets (drop from text ++ rest) ≡ still course shelves₀ packets₀ (text ++ rest)
+pub record Going (course : Course) (text shelves₀ packets₀ : List ℕ) (room : ℕ) (shelves packets out : List ℕ) (current : Course) (end : ℕ) (rest : List ℕ) : Type 0 where
+  pub prints : (later : List ℕ) → take end out ++ still current shelves packets (rest ++ later) ≡ still course shelves₀ packets₀ (text ++ later)
   pub ready : Ready current
-  pub high : end ≤ answer_most * from
-  pub counts : current.number ≤ course.number + from
+  pub high : end + answer_most * length rest ≤ answer_most * length text
+  pub counts : current.number + length rest ≤ course.number + length text
   pub same_room : length out ≡ room
 
 module _ (course : Course) (text shelves₀ packets₀ out₀ : List ℕ) where
-  pub nothing_yet : Ready course → Going course text shelves₀ packets₀ (length out₀) shelves₀ packets₀ out₀ course 0 0
-  nothing_yet ready =
-      record { inside = omega arith; prints = λ rest. refl; ready = ready; high = omega arith; counts = omega arith; same_room = refl }
+  pub nothing_yet : Ready course → Going course text shelves₀ packets₀ (length out₀) shelves₀ packets₀ out₀ course 0 text
+  nothing_yet ready = record { prints = λ later. refl; ready = ready; high = omega arith; counts = omega arith; same_room = refl }
 
-  pub goes_further : (shelves packets out : List ℕ) (current : Course) (end from : ℕ) (went : Went) (shelves-left packets-left out-left : List ℕ)
-      → Going course text shelves₀ packets₀ (length out₀) shelves packets out current end from
-      → TextTaken current text from shelves packets out end went shelves-left packets-left out-left → length out-left ≡ length out
-      → Going course text shelves₀ packets₀ (length out₀) shelves-left packets-left out-left went.course went.end went.next
-  goes_further shelves packets out current end from went shelves-left packets-left out-left so more long =
-      record {
-        inside = more.inside;
-        prints = λ rest. more.prints rest ∙ so.prints rest;
-        ready = more.ready;
-        high = omega (arith, more.high, so.high, more.further);
-        counts = omega (arith, more.counts, so.counts, more.further);
-        same_room = long ∙ so.same_room;
-      }
+  module _ (shelves packets out : List ℕ) (current mid : Course) (end place : ℕ) (rest : List ℕ) (answered : Answered) (shelves-left packets-left : List ℕ) (next : ℕ) (out-left : List ℕ)
+      (so : Going course text shelves₀ packets₀ (length out₀) shelves packets out current end rest)
+      (there : place < length rest) (at : FirstAt line_feed rest place) (kept : CourseKept current (take place rest) mid)
+      (line : LineTaken mid.number (λ lines. for_course mid shelves packets (line_in mid.line ∷ lines)) answered shelves-left packets-left)
+      (wrote : Wrote out end (text_of answered.line) next out-left) (short : length (text_of answered.line) ≤ answer_most)
+      (enough : answer_most * length text ≤ length out₀) where
+    pub behind_shorter : length (behind rest place) + 1 ≤ length rest
+    behind_shorter = omega (arith, ap length (behind_is rest place), length-drop (suc place) rest)
 
-  pub all_taken : (shelves packets out : List ℕ) (current : Course) (end from : ℕ) → length text ≤ from
-      → Going course text shelves₀ packets₀ (length out₀) shelves packets out current end from
-      → PieceTaken course text shelves₀ packets₀ (record { course = current; end = end }) shelves packets out
-  all_taken shelves packets out current end from past so =
-      let e : from ≡ length text = omega (arith, so.inside) in
+    none : line_in answered.course.line ≡ []
+    none = λ p. take (line.fresh p) answered.course.line.bytes
+
+    line_printed : (later : List ℕ) → take next out-left ++ still answered.course shelves-left packets-left (behind rest place ++ later)
+        ≡ take end out ++ still current shelves packets (rest ++ later)
+    unfolding still
+    line_printed later =
+        let others = behind rest place ++ later in
+        (λ p. wrote_prints wrote (omega (arith, so.high, so.same_room, enough, there, short)) p ++ for_course answered.course shelves-left packets-left (lines_of (none p ++ others)))
+        ∙ append_assoc (take end out) (text_of answered.line) (for_course answered.course shelves-left packets-left (lines_of others))
+        ∙ ap (λ (l : List ℕ). take end out ++ l) (line.prints (lines_of others))
+        ∙ ap (λ (l : List (List ℕ)). take end out ++ for_course mid shelves packets l) (sym (cut_feed (line_in mid.line) others kept.ready.no_feed))
+        ∙ ap (λ (l : List ℕ). take end out ++ l) (kept.still_is shelves packets (line_feed ∷ others))
+        ∙ ap (λ (l : List ℕ). take end out ++ still current shelves packets l)
+        (sym (append_assoc (take place rest) (line_feed ∷ behind rest place) later) ∙ ap (λ (l : List ℕ). l ++ later) (sym (at_feed rest place at there)))
+
+    pub goes_further : Going course text shelves₀ packets₀ (length out₀) shelves-left packets-left out-left answered.course next (behind rest place)
+    goes_further =
+        record {
+          prints = λ later. line_printed later ∙ so.prints later;
+          ready = record {
+            bounded = line.bounded;
+            short = omega (arith, line.fresh);
+            long = line.line_long;
+            no_feed = subst NoFeed (sym none) no_feed_none;
+          };
+          high = omega (arith, wrote.ends, short, so.high, behind_shorter);
+          counts = omega (arith, line.counts, so.counts, kept.number_is, behind_shorter);
+          same_room = wrote_long wrote ∙ so.same_room;
+        }
+
+  pub all_taken : (shelves packets out : List ℕ) (current last : Course) (end : ℕ) (rest : List ℕ)
+      → Going course text shelves₀ packets₀ (length out₀) shelves packets out current end rest → CourseKept current rest last
+      → PieceTaken course text shelves₀ packets₀ (record { course = last; end = end }) shelves packets out
+  all_taken shelves packets out current last end rest so kept =
       record {
-        prints = λ rest. (λ p. take end out ++ still current shelves packets (sym (ap (λ (k : ℕ). drop k text) e ∙ drop-length text) p ++ rest)) ∙ so.prints rest;
-        ready = so.ready;
+        prints = λ later. ap (λ (l : List ℕ). take end out ++ l) (kept.still_is shelves packets later) ∙ so.prints later;
+        ready = kept.ready;
         high = omega (arith, so.high);
-        counts = omega (arith, so.counts);
+        counts = omega (arith, so.counts, kept.number_is);
       }
 
 -- ---- the end of the input
@@ -218,16 +195,18 @@ module _ (course : Course) (shelves packets : List ℕ) where
         high = omega arith;
       }
 
-  pub line_finished : (out : List ℕ) (taken : Taken) (shelves-left packets-left out-left : List ℕ) → Ready course → is_done course ≡ false
-      → LineTaken course.number (λ lines. for_course course shelves packets (line_in course.line ∷ lines)) out 0 taken shelves-left packets-left out-left
-      → Finished course shelves packets taken.end out-left
+  pub line_finished : (out : List ℕ) (answered : Answered) (shelves-left packets-left : List ℕ) (end : ℕ) (out-left : List ℕ) → Ready course → is_done course ≡ false
+      → LineTaken course.number (λ lines. for_course course shelves packets (line_in course.line ∷ lines)) answered shelves-left packets-left
+      → Wrote out 0 (text_of answered.line) end out-left → length (text_of answered.line) ≤ answer_most → answer_most ≤ length out
+      → Finished course shelves packets end out-left
   unfolding still
-  line_finished out taken shelves-left packets-left out-left ready so line =
+  line_finished out answered shelves-left packets-left end out-left ready so line wrote short room =
       record {
         prints =
-            sym (append-nil (take taken.end out-left))
-            ∙ (λ p. take taken.end out-left ++ sym line.no_more p)
+            wrote_prints wrote (omega arith)
+            ∙ sym (append-nil (text_of answered.line))
+            ∙ (λ p. text_of answered.line ++ sym line.no_more p)
             ∙ line.prints []
             ∙ last_line course.number (session_in course.walk shelves packets) course.line.length course.line.bytes ready.no_feed (omega (arith, ready.short, ready.long)) course.stage so;
-        high = omega (arith, line.high);
+        high = omega (arith, wrote.ends);
       }

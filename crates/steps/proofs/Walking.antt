@@ -3,10 +3,12 @@ use Prim.Native.Nat.{ℕ, ◌+◌, ◌*◌, ◌-◌, ◌≤◌, ◌<◌}
 use mathlib.Core.Bool.{Bool, true, false, cond, ◌&&◌}
 use mathlib.Core.Path.{◌≡◌, refl, subst, sym, ap, ◌∙◌}
 use mathlib.Core.List.{List, []}
+use native.Mathlib.Nat.{add-zero}
 use native.Mathlib.Omega.{arith}
 use borrow.Author.Tests.{leb-true, lt-ltb, le-ltb}
 use lib.Dec.{leb, ltb}
-use lib.ListN.{length}
+use borrow.Rule.Slice.PartMut.{put_mid}
+use lib.ListN.{length, take, drop}
 use Rattle.answers.specs.Answers.{bare, report}
 use Rattle.answers.specs.declared.Answer.{Answer}
 use Rattle.answers.specs.declared.Answer.TheVariants.{Opened, Done, Shelved, NothingReady, Refused}
@@ -14,14 +16,17 @@ use Rattle.vectors.proofs.Every.{and_both}
 use Rattle.packet.specs.Packet.{past_of, barrier_of}
 use Rattle.seat.specs.Sending.{seat_after}
 use Rattle.seat.specs.HandingOver.{hand_over}
-use Rattle.seat.specs.Arriving.{heading_of, arrive_answer, shelf_after}
-use Rattle.seat.specs.Releasing.{chosen_packet, release_answer, shelf_after_release}
+use Rattle.seat.specs.Arriving.{heading_of, arrive_answer, shelf_after, Arrived}
+use Rattle.seat.specs.Releasing.{chosen_packet, release_answer, shelf_after_release, Released}
 use Rattle.seat.specs.declared.Seat.{Seat}
+use Rattle.seat.specs.declared.Stepped.{Stepped}
 use Rattle.seat.proofs.HandedOver.{handing_over_keeps_seats}
-use Rattle.steps.specs.Session.{Letter, Told, unknown, seated, place_of, with_place, letter_at, found, arrived, arrived_packet, arrive_told, released, release_told}
-use Rattle.steps.specs.Memory.{with_piece, shelf_size, seat_in, shelf_in, place_in, packet_in, session_in, shelves_size, Bounded, Walks, is_seated, found_in, walked_to, ArrivedAt, ReleasedAt}
+use Rattle.steps.specs.Session.{packet_most, Letter, Told, unknown, seated, place_of, with_place, letter_at, found, arrived, arrived_packet, arrive_told, released, release_told}
+use Rattle.steps.specs.Memory.{piece, with_piece, shelf_size, seat_in, shelf_in, place_in, packet_in, session_in, shelves_size, Bounded, Walks, is_seated, found_in, walked_to, ArrivedAt, ReleasedAt}
 use Rattle.steps.specs.declared.walk.Walk.{Walk}
 use Rattle.steps.specs.declared.walk.Walked.{Walked}
+use Rattle.steps.proofs.Parts.{part_lent, part_kept}
+use Rattle.steps.proofs.AtSeat.{arrived_at, released_at}
 use Rattle.steps.proofs.Held.{back_as_long, shelf_inside, place_held, letters_held, letter_held, found_held, session_after, still_bounded}
 
 -- a seat that steps stays in its session
@@ -175,3 +180,40 @@ module _ (walk : Walk) (shelves packets : List ℕ) (k : ℕ) where
       answer walked shelves-left _
       (steps_in_session answer _ seat (handing_over_keeps_seats seat (heading_of packet) (past_of packet) (barrier_of packet)))
       at.walked_is at.shelves_are long (somebody_releases so)
+
+-- the packet at i, of the room that is lent from start to end
+pub packet_lent : (walk : Walk) (packets : List ℕ) (i start end : ℕ) → start ≡ packet_most * i → end ≡ packet_most * i + packet_most
+    → take (3 + 4 * walk.n) (take (end - start) (drop start packets)) ≡ packet_in walk packets i
+packet_lent walk packets i start end starts ends =
+    ap (take (3 + 4 * walk.n)) (part_lent packet_most i packets start end starts ends)
+    ∙ ap (λ (k : ℕ). take k (piece packet_most packets i)) (sym (add-zero (3 + 4 * walk.n)))
+
+-- ---- a call at the seat at an index, which is lent its shelf from start to end
+
+module _ (walk : Walk) (bounded : Bounded walk) (shelves packets : List ℕ) (shelves-long : length shelves ≡ shelves_size)
+    (k i : ℕ) (so : (is_seated walk k ≡ true) × (i ≡ k - 1)) (stepped : Stepped) (after : List ℕ) (walked : Walked) (start end : ℕ)
+    (starts : start ≡ shelf_size walk * i) (ends : end ≡ shelf_size walk * i + shelf_size walk)
+    (as-long : length after ≡ length (take (end - start) (drop start shelves))) (moved : walked ≡ walked_to walk i stepped.seat stepped.answer) where
+  there : i < walk.n
+  there = let seated = seated_is walk k so.0 in omega (arith, so.1)
+
+  kept : length (put_mid start (end - start) shelves after) ≡ length shelves
+  kept = part_kept (shelf_size walk) i shelves start end starts ends after (shelf_inside walk bounded shelves i shelves-long there) as-long
+
+  pub released_walks : (out : List ℕ) → Released (seat_in walk i) (take (end - start) (drop start shelves)) [] stepped after out
+      → Walks (release_told (session_in walk shelves packets) k) walked (put_mid start (end - start) shelves after) packets
+  released_walks out released =
+      release_walks walk shelves packets k bounded shelves-long so.0 walked _
+      (subst (λ (j : ℕ). ReleasedAt walk j shelves walked (put_mid start (end - start) shelves after)) so.1
+      (released_at walk i shelves stepped after walked start end starts ends moved out released))
+      kept
+
+  pub arrived_walks : (sender number j : ℕ) → (j < walk.letters) × (j ≡ found_in walk sender number) → (packet : List ℕ) → packet ≡ packet_in walk packets j
+      → Arrived (seat_in walk i) packet (take (end - start) (drop start shelves)) stepped after
+      → Walks (arrive_told (session_in walk shelves packets) k sender number) walked (put_mid start (end - start) shelves after) packets
+  arrived_walks sender number j found packet is arrived =
+      arrival_walks walk shelves packets k sender number bounded shelves-long so.0 (omega (arith, found.0, found.1)) walked _
+      (subst (λ (m : ℕ). ArrivedAt walk m (packet_in walk packets (found_in walk sender number)) shelves walked (put_mid start (end - start) shelves after)) so.1
+      (subst (λ (bytes : List ℕ). ArrivedAt walk i bytes shelves walked (put_mid start (end - start) shelves after)) (is ∙ ap (packet_in walk packets) found.1)
+      (arrived_at walk i shelves stepped after walked start end starts ends moved packet arrived)))
+      kept

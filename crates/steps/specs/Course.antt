@@ -1,22 +1,28 @@
 -- How far a list has come: what is still to be printed when the input comes in pieces.
-use Rattle.std.specs.Prelude.{ℕ, ◌+◌, ◌*◌, ◌≤◌, ◌<◌, ◌≡◌, Bool, true, false, List, [], ◌++◌, eqb, length, get_or, take, drop}
-use Rattle.lines.specs.Lines.{line_feed, lines_of}
+use Rattle.std.specs.Prelude.{ℕ, ◌+◌, ◌*◌, ◌≤◌, ◌≡◌, Bool, true, false, List, [], ◌++◌, eqb, length, take, Option, Some, None}
+use Rattle.answers.specs.declared.Report.{Report}
+use Rattle.lines.specs.Lines.{lines_of}
 use Rattle.lines.specs.Kept.{line_most, NoFeed}
 use Rattle.lines.specs.AnswerLine.{answer_most}
 use Rattle.steps.specs.Session.{Session}
 use Rattle.steps.specs.Memory.{session_in, Bounded}
-use Rattle.steps.specs.Printed.{walked, printed_lines}
+use Rattle.steps.specs.Printed.{line_of, walked, printed_lines}
 use Rattle.steps.specs.declared.list.Line.{Line}
 use Rattle.steps.specs.declared.list.Stage.{Stage}
 use Rattle.steps.specs.declared.list.Stage.TheVariants.{First, Walking, Ended}
 use Rattle.steps.specs.declared.list.Course.{Course}
+use Rattle.steps.specs.declared.list.Answered.{Answered}
 use Rattle.steps.specs.declared.list.Taken.{Taken}
-use Rattle.steps.specs.declared.list.Went.{Went}
 use Rattle.steps.specs.declared.walk.Walk.{Walk}
 
 -- The part of a line that has come so far.
 abbrev pub line_in : Line → List ℕ
 line_in line = take line.length line.bytes
+
+-- What is printed for a line: a number and a report, or nothing.
+abbrev pub text_of : Option (ℕ × Report) → List ℕ
+text_of None = []
+text_of (Some (number, report)) = line_of number report
 
 -- What is printed for the lines to come.
 unfoldable pub for_lines : Stage → ℕ → Session → List (List ℕ) → List ℕ
@@ -39,18 +45,26 @@ pub record Ready (course : Course) : Type 0 where
   pub long : length course.line.bytes ≡ line_most
   pub no_feed : NoFeed (line_in course.line)
 
--- The first line feed at `from` or after it, or the text's end.
-pub record LineEnd (text : List ℕ) (from end : ℕ) : Type 0 where
-  pub low : from ≤ end
-  pub high : end ≤ length text
-  pub no_feed : (k : ℕ) → from ≤ k → k < end → get_or text k 0 ≡ line_feed → ⊥
-  pub at_feed : end < length text → get_or text end 0 ≡ line_feed
-
 -- More text was kept, as far as a line is kept.
 pub record KeptMore (line : Line) (text : List ℕ) (next : Line) : Type 0 where
   pub line_is : line_in next ≡ take line_most (line_in line ++ text)
   pub short : next.length ≤ line_most
   pub long : length next.bytes ≡ line_most
+
+-- A list with more text, which has no line feed.
+pub record CourseKept (course : Course) (text : List ℕ) (next : Course) : Type 0 where
+  pub ready : Ready next
+  pub number_is : next.number ≡ course.number
+  pub still_is : (shelves packets rest : List ℕ) → still next shelves packets rest ≡ still course shelves packets (text ++ rest)
+
+-- A list between two lines after the first.
+pub record WalkingAs (number : ℕ) (walk : Walk) (course : Course) : Type 0 where
+  pub fresh : course.line.length ≡ 0
+  pub line_long : length course.line.bytes ≡ line_most
+  pub walk_is : course.walk ≡ walk
+  pub number_is : course.number ≡ number
+  pub walks : (shelves packets : List ℕ) (lines : List (List ℕ))
+      → for_course course shelves packets lines ≡ walked number (session_in walk shelves packets) lines
 
 -- A list that has ended, and prints nothing more.
 pub record EndedAs (walk : Walk) (course : Course) : Type 0 where
@@ -60,27 +74,14 @@ pub record EndedAs (walk : Walk) (course : Course) : Type 0 where
   pub number_is : course.number ≡ 0
   pub nothing : (shelves packets : List ℕ) (lines : List (List ℕ)) → for_course course shelves packets lines ≡ []
 
--- A line was taken: for all lines to come, what is printed and what is still to be printed are what was to be printed.
-pub record LineTaken (number : ℕ) (before : List (List ℕ) → List ℕ) (out : List ℕ) (at : ℕ) (taken : Taken) (shelves packets out-left : List ℕ) : Type 0 where
-  pub prints : (lines : List (List ℕ)) → take taken.end out-left ++ for_course taken.course shelves packets lines ≡ take at out ++ before lines
-  pub no_more : for_course taken.course shelves packets [] ≡ []
-  pub fresh : taken.course.line.length ≡ 0
-  pub line_long : length taken.course.line.bytes ≡ line_most
-  pub bounded : Bounded taken.course.walk
-  pub low : at ≤ taken.end
-  pub high : taken.end ≤ at + answer_most
-  pub counts : taken.course.number ≤ number + 1
-
--- The text from place `from` on was taken, up to a line feed or to its end.
-pub record TextTaken (course : Course) (text : List ℕ) (from : ℕ) (shelves packets out : List ℕ) (at : ℕ) (went : Went) (shelves-left packets-left out-left : List ℕ) : Type 0 where
-  pub prints : (rest : List ℕ)
-      → take went.end out-left ++ still went.course shelves-left packets-left (drop went.next text ++ rest)
-      ≡ take at out ++ still course shelves packets (drop from text ++ rest)
-  pub ready : Ready went.course
-  pub further : from < went.next
-  pub inside : went.next ≤ length text
-  pub high : went.end ≤ at + answer_most
-  pub counts : went.course.number ≤ course.number + 1
+-- A line was taken: for all lines to come, what is printed for it and what is still to be printed are what was to be printed.
+pub record LineTaken (number : ℕ) (before : List (List ℕ) → List ℕ) (answered : Answered) (shelves packets : List ℕ) : Type 0 where
+  pub prints : (lines : List (List ℕ)) → text_of answered.line ++ for_course answered.course shelves packets lines ≡ before lines
+  pub no_more : for_course answered.course shelves packets [] ≡ []
+  pub fresh : answered.course.line.length ≡ 0
+  pub line_long : length answered.course.line.bytes ≡ line_most
+  pub bounded : Bounded answered.course.walk
+  pub counts : answered.course.number ≤ number + 1
 
 -- No line is left: line one has come, and nothing after the last line feed.
 abbrev pub done_at : Stage → ℕ → Bool

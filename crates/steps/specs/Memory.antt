@@ -1,6 +1,7 @@
 -- How a session is held: the states in an array, the shelves and the packets each in one buffer, in pieces of one size.
-use Rattle.std.specs.Prelude.{ℕ, suc, ◌+◌, ◌*◌, ◌≤◌, ◌<◌, ◌≡◌, Bool, ◌&&◌, List, [], ◌++◌, leb, eqb, length, get_or, set, take, drop, replicate}
-use Rattle.answers.specs.Answers.{seat_no, report}
+use Rattle.std.specs.Prelude.{ℕ, suc, ◌+◌, ◌*◌, ◌-◌, ◌≤◌, ◌<◌, ◌≡◌, Bool, cond, ◌&&◌, List, [], ◌++◌, leb, eqb, length, get_or, set, take, drop, replicate, Option, Some, None}
+use Rattle.answers.specs.Answers.{seat_no, edit_no, report}
+use Rattle.answers.specs.declared.Edit.{Edit}
 use Rattle.answers.specs.declared.Answer.{Answer}
 use Rattle.answers.specs.declared.Answer.TheVariants.{Opened, Done, Shelved, NothingReady, Refused}
 use Rattle.packet.specs.Packet.{packet_length}
@@ -40,9 +41,16 @@ place_in walk shelves i = record { seat = seat_in walk i; shelf = shelf_in walk 
 abbrev pub packet_in : Walk → List ℕ → ℕ → List ℕ
 packet_in walk packets i = take (packet_length walk.n 0) (piece packet_most packets i)
 
+-- What an index past the last edit gives.
+abbrev pub no_edit : Edit
+no_edit = record { sender = seat_no 0; number = edit_no 0; length = 0 }
+
+abbrev pub edit_in : Walk → ℕ → Edit
+edit_in walk i = get_or walk.edits i no_edit
+
 abbrev pub letter_in : Walk → List ℕ → ℕ → Letter
 letter_in walk packets i =
-    record { sender = get_or walk.senders i 0; number = get_or walk.numbers i 0; bytes = packet_in walk packets i }
+    record { sender = (edit_in walk i).sender.0; number = (edit_in walk i).number.0; bytes = packet_in walk packets i }
 
 -- The session that is held.
 unfoldable pub session_in : Walk → List ℕ → List ℕ → Session
@@ -73,8 +81,7 @@ pub record Bounded (walk : Walk) : Type 0 where
   pub sends_within_most : walk.sends ≤ sends_most
   pub same_session : (i : ℕ) → i < walk.n → (seat_in walk i).n ≡ walk.n
   pub seats_long : length walk.seats ≡ 16
-  pub senders_long : length walk.senders ≡ sends_most
-  pub numbers_long : length walk.numbers ≡ sends_most
+  pub edits_long : length walk.edits ≡ sends_most
 
 -- The walk has gone on as the session is told to.
 pub record Walks (told : Told) (walked : Walked) (shelves packets : List ℕ) : Type 0 where
@@ -87,10 +94,13 @@ pub record Walks (told : Told) (walked : Walked) (shelves packets : List ℕ) : 
 abbrev pub is_seated : Walk → ℕ → Bool
 is_seated walk k = leb 1 k && leb k walk.n
 
+abbrev pub index_in : Walk → ℕ → Option ℕ
+index_in walk k = cond (is_seated walk k) (Some (k - 1)) None
+
 -- The first packet that carries this edit, or the number of packets.
 abbrev pub found_in : Walk → ℕ → ℕ → ℕ
 found_in walk sender number =
-    lowest walk.letters (λ i. eqb (get_or walk.senders i 0) sender && eqb (get_or walk.numbers i 0) number)
+    lowest walk.letters (λ i. eqb (edit_in walk i).sender.0 sender && eqb (edit_in walk i).number.0 number)
 
 -- The walk with one send line more.
 abbrev pub with_send : Walk → Walk
@@ -101,8 +111,7 @@ with_send walk =
       sends = walk.sends + 1;
       letters = walk.letters;
       seats = walk.seats;
-      senders = walk.senders;
-      numbers = walk.numbers;
+      edits = walk.edits;
     }
 
 -- The walk with another state for the seat at i.
@@ -114,26 +123,24 @@ with_seat walk i seat =
       sends = walk.sends;
       letters = walk.letters;
       seats = set walk.seats i seat;
-      senders = walk.senders;
-      numbers = walk.numbers;
+      edits = walk.edits;
     }
 
 -- The walk after a send that was answered so: done, its edit is noted.
-abbrev pub with_letter : Walk → Answer → Walk
-with_letter walk (Done edit) =
+abbrev pub with_edit : Walk → Answer → Walk
+with_edit walk (Done edit) =
     record {
       n = walk.n;
       slots = walk.slots;
       sends = walk.sends;
       letters = walk.letters + 1;
       seats = walk.seats;
-      senders = set walk.senders walk.letters edit.sender.0;
-      numbers = set walk.numbers walk.letters edit.number.0;
+      edits = set walk.edits walk.letters edit;
     }
-with_letter walk Opened = walk
-with_letter walk Shelved = walk
-with_letter walk NothingReady = walk
-with_letter walk (Refused refusal) = walk
+with_edit walk Opened = walk
+with_edit walk Shelved = walk
+with_edit walk NothingReady = walk
+with_edit walk (Refused refusal) = walk
 
 -- The answer of a step at the seat at i, and its next state.
 abbrev pub walked_to : Walk → ℕ → Seat → Answer → Walked
@@ -147,7 +154,7 @@ pub record SentEmpty (seat : Seat) (wish : Wish) (out : List ℕ) (stepped : Ste
 -- The seat at i has sent.
 pub record SentAs (walk : Walk) (i : ℕ) (wish : Wish) (packets : List ℕ) (answer : Answer) (walked : Walked) (packets-left : List ℕ) : Type 0 where
   pub walked_is : walked
-      ≡ walked_to (with_letter walk answer) i (seat_after answer (sent_seat (seat_in walk i) (kind_of wish)) (seat_in walk i)) answer
+      ≡ walked_to (with_edit walk answer) i (seat_after answer (sent_seat (seat_in walk i) (kind_of wish)) (seat_in walk i)) answer
   pub packets_are : packets-left
       ≡ with_piece packet_most packets walk.letters
       (output_after answer (packet_sent (seat_in walk i) (kind_of wish) []) (piece packet_most packets walk.letters))

@@ -1,11 +1,10 @@
 -- What the step-list program prints for an input (document 01, "The step-list program").
-use Rattle.std.specs.Prelude.{ℕ, suc, cond, ◌&&◌, List, [], ◌∷◌, ◌++◌, leb}
+use Rattle.std.specs.Prelude.{ℕ, suc, cond, ◌&&◌, List, [], ◌∷◌, ◌++◌, leb, Option, Some, None}
 use Rattle.answers.specs.Answers.{bare}
 use Rattle.answers.specs.declared.Report.{Report}
 use Rattle.lines.specs.Lines.{lines_of, read_step, read_opening}
 use Rattle.lines.specs.AnswerLine.{answer_line}
 use Rattle.lines.specs.declared.Opening.{Opening}
-use Rattle.lines.specs.declared.Opening.TheVariants.{Session, Bad}
 use Rattle.steps.specs.Session as walks
 use Rattle.steps.specs.Session.{step_told, opened}
 
@@ -24,9 +23,10 @@ abbrev pub bad_first : List ℕ
 bad_first = line_of 0 (bare 21)
 
 -- Line one names n, 1 to 16, and the slot count of every shelf, 0 to 8.
-abbrev pub walked_from : Opening → List (List ℕ) → List ℕ
-walked_from (Session n slots) lines = cond (leb 1 n && leb n 16 && leb slots 8) (walked 1 (opened n slots) lines) bad_first
-walked_from Bad lines = bad_first
+abbrev pub walked_from : Option Opening → List (List ℕ) → List ℕ
+walked_from (Some opening) lines =
+    cond (leb 1 opening.n && leb opening.n 16 && leb opening.slots 8) (walked 1 (opened opening.n opening.slots) lines) bad_first
+walked_from None lines = bad_first
 
 unfoldable pub printed_lines : List (List ℕ) → List ℕ
 printed_lines [] = bad_first

@@ -1,6 +1,6 @@
 -- A session as a step list walks it (document 01, "The step-list program"): seats that were opened together, the packets
 -- sent so far, and what each step is answered. Every answer, state and shelf is what the call's own definition says.
-use Rattle.std.specs.Prelude.{ℕ, zero, suc, ◌+◌, ◌*◌, ◌-◌, Bool, cond, ◌&&◌, List, [], ◌∷◌, ◌++◌, leb, ltb, eqb, length, get_or, set, replicate}
+use Rattle.std.specs.Prelude.{ℕ, zero, suc, ◌+◌, ◌*◌, ◌-◌, Bool, cond, ◌&&◌, List, [], ◌∷◌, ◌++◌, leb, ltb, eqb, length, get_or, set, replicate, Option, Some, None}
 use Rattle.answers.specs.Answers.{seat_no, bare, report}
 use Rattle.answers.specs.declared.Report.{Report}
 use Rattle.answers.specs.declared.Answer.{Answer}
@@ -16,9 +16,9 @@ use Rattle.seat.specs.declared.Seat.{Seat}
 use Rattle.seat.specs.declared.Wish.{Wish}
 use Rattle.seat.specs.declared.Wish.TheVariants.{Ordinary as PlainOrdinary, Causal as PlainCausal, Usual}
 use Rattle.lines.specs.declared.Letter as lines
-use Rattle.lines.specs.declared.Letter.TheVariants.{Ordinary, Causal, Missing}
+use Rattle.lines.specs.declared.Letter.TheVariants.{Ordinary, Causal}
 use Rattle.lines.specs.declared.Step.{Step}
-use Rattle.lines.specs.declared.Step.TheVariants.{Send, Arrive, Release, Unreadable}
+use Rattle.lines.specs.declared.Step.TheVariants.{Send, Arrive, Release}
 
 -- A seat's latest state and shelf.
 pub record Place : Type 0 where
@@ -167,17 +167,17 @@ release_told session k =
 -- ---- a line
 
 -- A missing letter means usual.
-abbrev pub wish_of : lines.Letter → Wish
-wish_of Ordinary = PlainOrdinary
-wish_of Causal = PlainCausal
-wish_of Missing = Usual
+abbrev pub wish_of : Option lines.Letter → Wish
+wish_of (Some Ordinary) = PlainOrdinary
+wish_of (Some Causal) = PlainCausal
+wish_of None = Usual
 
 -- What a line after the first is answered: 21 where it is unreadable.
-unfoldable pub step_told : Session → Step → Told
-step_told session (Send k letter) = send_told session k (wish_of letter)
-step_told session (Arrive k sender number) = arrive_told session k sender number
-step_told session (Release k) = release_told session k
-step_told session Unreadable = unknown session
+unfoldable pub step_told : Session → Option Step → Told
+step_told session (Some (Send k letter)) = send_told session k (wish_of letter)
+step_told session (Some (Arrive k sender number)) = arrive_told session k sender number
+step_told session (Some (Release k)) = release_told session k
+step_told session None = unknown session
 
 -- ---- opening
 

@@ -2,5 +2,6 @@
 #![tactic(auto)]
 
 pub mod list;
+pub mod memory;
 mod opening;
 mod walk;

@@ -1,15 +1,16 @@
 // A whole list, whose text comes in pieces. A line is kept only as far as a readable one can reach.
-ghost use Rattle.std.specs.Prelude.{◌≡◌, ℕ, ◌+◌, ◌*◌, ◌≤◌, ◌<◌, min, List, ◌∷◌, length};
-ghost use Rattle.lines.specs.Lines.{read_opening};
+ghost use Rattle.std.specs.Prelude.{◌≡◌, ◌==◌, ℕ, ◌+◌, ◌*◌, ◌≤◌, ◌<◌, List, ◌∷◌, length};
+ghost use Rattle.std.specs.List.{position};
+ghost use Rattle.lines.specs.Lines.{line_feed, read_opening};
 ghost use Rattle.lines.specs.AnswerLine.{answer_most, Wrote};
-ghost use Rattle.lines.specs.Kept.{line_most};
+ghost use Rattle.lines.specs.Kept.{line_most, NoFeed};
 ghost use Rattle.steps.specs.Session.{opened};
-ghost use Rattle.steps.specs.Memory.{session_in, slots_most, shelves_size, packets_size, Bounded};
-ghost use Rattle.steps.specs.Printed.{line_of, bad_first, walked_from, walked, printed};
-ghost use Rattle.steps.specs.Course.{line_in, for_course, still, number_most, is_done, is_over, Ready, EndedAs, LineEnd, KeptMore, LineTaken, TextTaken, PieceTaken, Finished};
+ghost use Rattle.steps.specs.Memory.{session_in, slots_most, Bounded};
+ghost use Rattle.steps.specs.Printed.{bad_first, walked_from, walked, printed};
+ghost use Rattle.steps.specs.Course.{text_of, line_in, for_course, still, number_most, is_done, is_over, Ready, WalkingAs, EndedAs, KeptMore, CourseKept, LineTaken, PieceTaken, Finished};
 
-use super::opening::{no_walk, open_session};
-use super::walk::{Walk, walk_step};
+use super::memory::Memory;
+use super::walk::{UNKNOWN, Walk};
 use answers::Report;
 use lines::answer::put_answer;
 use lines::{Opening, read_opening, read_step};
@@ -42,314 +43,237 @@ pub struct Course {
     pub walk: Walk,
 }
 
-// How far the list has come after a line, and where the output ends.
+// How far the list has come after a line, and what is printed for the line: a number and a report, or nothing.
+#[derive(Clone, Copy)]
+pub struct Answered {
+    pub course: Course,
+    pub line: Option<(u64, Report)>,
+}
+
+// How far the list has come after a piece, and where the output ends.
 #[derive(Clone, Copy)]
 pub struct Taken {
     pub course: Course,
     pub end: usize,
 }
 
-// The same, and the place in the text that comes next.
-#[derive(Clone, Copy)]
-pub struct Went {
-    pub course: Course,
-    pub end: usize,
-    pub next: usize,
-}
+impl Line {
+    fn new() -> Line
+        ensures { result.length ≡ 0 }
+    {
+        Line {
+            bytes: [0; 20],
+            length: 0,
+        }
+    }
 
-fn no_line() -> Line
-    ensures { (result.length ≡ 0) × (length result.bytes ≡ line_most) }
-{
-    Line {
-        bytes: [0; 20],
-        length: 0,
+    // The line with more text, as far as it is kept.
+    fn keep(self, text: &[u8]) -> Line
+        requires { self.length ≤ line_most }
+        ensures { KeptMore self text.now result }
+    {
+        let mut bytes = self.bytes;
+        let more = (LINE_MOST - self.length).min(text.len());
+        put_bytes(&mut bytes, self.length, &text[..more]);
+        Line {
+            bytes,
+            length: self.length + more,
+        }
     }
 }
 
-// The buffers, which have room for every session.
-pub fn no_shelves() -> [u8; 34304]
-    ensures { length result ≡ shelves_size }
+// Where the first line feed stands.
+fn line_end(text: &[u8]) -> Option<usize>
+    ensures { result ≡ position (λ byte. byte == line_feed) text.now }
 {
-    [0; 34304]
+    text.iter().position(|byte| *byte == b'\n')
 }
 
-pub fn no_packets() -> [u8; 17152]
-    ensures { length result ≡ packets_size }
+// What is printed for a line goes to the output.
+fn put_line(out: &mut [u8], at: usize, line: Option<(u64, Report)>) -> usize
+    requires { at + answer_most ≤ length out.old }
+    ensures wrote { Wrote out.old at (text_of line) result out.new }
+    ensures short { length (text_of line) ≤ answer_most }
 {
-    [0; 17152]
-}
-
-// A list of which nothing has come.
-pub fn start() -> Course
-    ensures { Ready result × (result.number ≡ 0) × ((shelves packets text : List ℕ) → still result shelves packets text ≡ printed text) }
-{
-    Course {
-        stage: Stage::First,
-        number: 0,
-        line: no_line(),
-        walk: no_walk(),
-    }
-}
-
-fn ended(walk: Walk) -> Course
-    ensures { EndedAs walk result }
-{
-    Course {
-        stage: Stage::Ended,
-        number: 0,
-        line: no_line(),
-        walk,
-    }
+    let Some((number, report)) = line else {
+        return at;
+    };
+    let edit = report.edit;
+    put_answer(out, at, number, report.answer, edit.sender.0, edit.number.0)
 }
 
 // A bad first line ends the list.
-fn refuse_list(walk: Walk, out: &mut [u8], at: usize) -> Taken
-    requires { Bounded walk × (at + answer_most ≤ length out.old) }
-    ensures { (number : ℕ) (shelves packets : List ℕ) → LineTaken number (λ lines. bad_first) out.old at result shelves packets out.new }
+fn refuse_list(walk: Walk) -> Answered
+    requires { Bounded walk }
+    ensures { (number : ℕ) (shelves packets : List ℕ) → LineTaken number (λ lines. bad_first) result shelves packets }
 {
-    let end = put_answer(out, at, 0, 21, 0, 0);
-    Taken {
-        course: ended(walk),
-        end,
+    Answered {
+        course: Course::ended(walk),
+        line: Some((0, UNKNOWN)),
     }
 }
 
 // The list goes on with line two.
-fn begin(n: u32, slots: u32, shelves: &mut [u8], at: usize) -> Taken
-    requires { (n ≤ 16) × (slots ≤ slots_most) × (length shelves.old ≡ shelves_size) }
-    ensures { (number : ℕ) (packets out : List ℕ) → LineTaken number (walked 1 (opened n slots)) out at result shelves.new packets out }
+fn begin(n: u32, slots: u32, memory: &mut Memory) -> Answered
+    requires seats { n ≤ 16 }
+    requires slots { slots ≤ slots_most }
+    ensures { (number : ℕ) → LineTaken number (walked 1 (opened n slots)) result memory.new.shelves memory.new.packets }
 {
-    let walk = open_session(n as u8, slots as usize, shelves);
-    Taken {
-        course: Course {
-            stage: Stage::Walking,
-            number: 1,
-            line: no_line(),
-            walk,
-        },
-        end: at,
+    let walk = Walk::open(n as u8, slots as usize, memory);
+    Answered {
+        course: Course::walking(1, walk),
+        line: None,
     }
 }
 
 // Line one.
-fn take_opening(walk: Walk, line: &[u8], shelves: &mut [u8], out: &mut [u8], at: usize) -> Taken
-    requires { Bounded walk × (length shelves.old ≡ shelves_size) × (at + answer_most ≤ length out.old) }
-    ensures { (number : ℕ) (packets : List ℕ) → LineTaken number (walked_from (read_opening line.now)) out.old at result shelves.new packets out.new }
+fn take_opening(walk: Walk, line: &[u8], memory: &mut Memory) -> Answered
+    requires { Bounded walk }
+    ensures { (number : ℕ) → LineTaken number (walked_from (read_opening line.now)) result memory.new.shelves memory.new.packets }
 {
-    let opening = read_opening(line);
-    match opening {
-        Opening::Session(n, slots) => {
-            if (1 <= n) & (n <= 16) & (slots <= 8) {
-                return begin(n, slots, shelves, at);
-            }
-            refuse_list(walk, out, at)
-        }
-        Opening::Bad => refuse_list(walk, out, at),
+    let Some(Opening { n, slots }) = read_opening(line) else {
+        return refuse_list(walk);
+    };
+    if (1 <= n) & (n <= 16) & (slots <= 8) {
+        return begin(n, slots, memory);
     }
-}
-
-// The line of a step goes to the output.
-fn put_report(out: &mut [u8], at: usize, number: u64, report: Report) -> usize
-    requires { at + answer_most ≤ length out.old }
-    ensures { Wrote out.old at (line_of number report) result out.new × (length (line_of number report) ≤ answer_most) }
-{
-    let edit = report.edit;
-    let sender = edit.sender;
-    let sequence = edit.number;
-    put_answer(out, at, number, report.answer, sender.0, sequence.0)
+    refuse_list(walk)
 }
 
 // A line after the first.
-fn take_step(
-    walk: Walk,
-    number: u64,
-    line: &[u8],
-    shelves: &mut [u8],
-    packets: &mut [u8],
-    out: &mut [u8],
-    at: usize,
-) -> Taken
-    requires { Bounded walk × (number < number_most) × (length shelves.old ≡ shelves_size) × (length packets.old ≡ packets_size) × (at + answer_most ≤ length out.old) }
-    ensures { LineTaken number (λ lines. walked number (session_in walk shelves.old packets.old) (line.now ∷ lines)) out.old at result shelves.new packets.new out.new }
+fn take_step(walk: Walk, number: u64, line: &[u8], memory: &mut Memory) -> Answered
+    requires bounded { Bounded walk }
+    requires number { number < number_most }
+    ensures { LineTaken number (λ lines. walked number (session_in walk memory.old.shelves memory.old.packets) (line.now ∷ lines)) result memory.new.shelves memory.new.packets }
 {
-    let walked = walk_step(walk, read_step(line), shelves, packets);
-    let walk = walked.walk;
-    let report = walked.report;
-    let end = put_report(out, at, number, report);
+    let walked = walk.step(read_step(line), memory);
     let next = number + 1;
-    Taken {
-        course: Course {
-            stage: Stage::Walking,
-            number: next,
-            line: no_line(),
-            walk,
-        },
-        end,
+    Answered {
+        course: Course::walking(next, walked.walk),
+        line: Some((number, walked.report)),
     }
 }
 
-// The line that was kept is whole.
-fn take_line(
-    course: Course,
-    shelves: &mut [u8],
-    packets: &mut [u8],
-    out: &mut [u8],
-    at: usize,
-) -> Taken
-    requires { Ready course × (course.number < number_most) × (length shelves.old ≡ shelves_size) × (length packets.old ≡ packets_size) × (at + answer_most ≤ length out.old) }
-    ensures { LineTaken course.number (λ lines. for_course course shelves.old packets.old (line_in course.line ∷ lines)) out.old at result shelves.new packets.new out.new }
-{
-    let stage = course.stage;
-    let number = course.number;
-    let walk = course.walk;
-    let line = course.line;
-    let bytes = line.bytes;
-    let length = line.length;
-    match stage {
-        Stage::First => take_opening(walk, &bytes[..length], shelves, out, at),
-        Stage::Walking => take_step(walk, number, &bytes[..length], shelves, packets, out, at),
-        Stage::Ended => Taken {
-            course: ended(walk),
-            end: at,
-        },
-    }
-}
-
-// The first line feed at a place or after it, or the text's end.
-fn line_end(text: &[u8], from: usize) -> usize
-    requires { from ≤ length text.now }
-    ensures { LineEnd text.now from result }
-{
-    for k in from..text.len() {
-        if text[k] == 10 {
-            return k;
+impl Course {
+    // A list of which nothing has come.
+    pub fn start() -> Course
+        ensures ready { Ready result }
+        ensures number { result.number ≡ 0 }
+        ensures prints { (shelves packets text : List ℕ) → still result shelves packets text ≡ printed text }
+    {
+        Course {
+            stage: Stage::First,
+            number: 0,
+            line: Line::new(),
+            walk: Walk::new(),
         }
     }
-    text.len()
-}
 
-fn least(a: usize, b: usize) -> usize
-    ensures { result ≡ min a b }
-{
-    if a < b { a } else { b }
-}
+    // Between two lines, the next of which has this number.
+    fn walking(number: u64, walk: Walk) -> Course
+        ensures { WalkingAs number walk result }
+    {
+        Course {
+            stage: Stage::Walking,
+            number,
+            line: Line::new(),
+            walk,
+        }
+    }
 
-// The line with more text, as far as it is kept.
-fn keep(line: Line, text: &[u8]) -> Line
-    requires { (line.length ≤ line_most) × (length line.bytes ≡ line_most) }
-    ensures { KeptMore line text.now result }
-{
-    let length = line.length;
-    let mut bytes = line.bytes;
-    let more = least(LINE_MOST - length, text.len());
-    put_bytes(&mut bytes, length, &text[..more]);
-    Line {
-        bytes,
-        length: length + more,
+    fn ended(walk: Walk) -> Course
+        ensures { EndedAs walk result }
+    {
+        Course {
+            stage: Stage::Ended,
+            number: 0,
+            line: Line::new(),
+            walk,
+        }
     }
-}
 
-// The text from a place on is taken, up to a line feed or to its end.
-fn take_text(
-    course: Course,
-    text: &[u8],
-    from: usize,
-    shelves: &mut [u8],
-    packets: &mut [u8],
-    out: &mut [u8],
-    at: usize,
-) -> Went
-    requires { Ready course × (course.number < number_most) × (from < length text.now) × (length shelves.old ≡ shelves_size) × (length packets.old ≡ packets_size) × (at + answer_most ≤ length out.old) }
-    ensures { TextTaken course text.now from shelves.old packets.old out.old at result shelves.new packets.new out.new }
-{
-    let feed = line_end(text, from);
-    let line = keep(course.line, &text[from..feed]);
-    let stage = course.stage;
-    let number = course.number;
-    let walk = course.walk;
-    let kept = Course {
-        stage,
-        number,
-        line,
-        walk,
-    };
-    if feed == text.len() {
-        return Went {
-            course: kept,
-            end: at,
-            next: feed,
-        };
+    // The line with more text, which has no line feed.
+    fn keep(self, text: &[u8]) -> Course
+        requires ready { Ready self }
+        requires no_feed { NoFeed text.now }
+        ensures { CourseKept self text.now result }
+    {
+        Course {
+            line: self.line.keep(text),
+            ..self
+        }
     }
-    let taken = take_line(kept, shelves, packets, out, at);
-    let course = taken.course;
-    let next = feed + 1;
-    Went {
-        course,
-        end: taken.end,
-        next,
-    }
-}
 
-// A piece of the input is taken. What it prints stands at the start of the output. The caller lends buffers of these
-// lengths once and for all, so that no piece can fail for want of room.
-pub fn take_piece(
-    course: Course,
-    text: &[u8],
-    shelves: &mut [u8],
-    packets: &mut [u8],
-    out: &mut [u8],
-) -> Taken
-    requires { Ready course × (course.number + length text.now ≤ number_most) × (length shelves.old ≡ shelves_size) × (length packets.old ≡ packets_size) × (answer_most * length text.now ≤ length out.old) }
-    ensures { PieceTaken course text.now shelves.old packets.old result shelves.new packets.new out.new }
-{
-    let mut current = course;
-    let mut end = 0;
-    let mut from = 0;
-    while from < text.len() {
-        let went = take_text(current, text, from, shelves, packets, out, end);
-        current = went.course;
-        end = went.end;
-        from = went.next;
+    // The line that was kept is whole.
+    fn take_line(self, memory: &mut Memory) -> Answered
+        requires ready { Ready self }
+        requires number { self.number < number_most }
+        ensures { LineTaken self.number (λ lines. for_course self memory.old.shelves memory.old.packets (line_in self.line ∷ lines)) result memory.new.shelves memory.new.packets }
+    {
+        let walk = self.walk;
+        let bytes = self.line.bytes;
+        let line = &bytes[..self.line.length];
+        match self.stage {
+            Stage::First => take_opening(walk, line, memory),
+            Stage::Walking => take_step(walk, self.number, line, memory),
+            Stage::Ended => Answered {
+                course: Course::ended(walk),
+                line: None,
+            },
+        }
     }
-    Taken {
-        course: current,
-        end,
-    }
-}
 
-// The input has ended: text after the last line feed is a line too. The caller lends the same buffers.
-pub fn finish(course: Course, shelves: &mut [u8], packets: &mut [u8], out: &mut [u8]) -> usize
-    requires { Ready course × (course.number < number_most) × (length shelves.old ≡ shelves_size) × (length packets.old ≡ packets_size) × (answer_most ≤ length out.old) }
-    ensures { Finished course shelves.old packets.old result out.new }
-{
-    if is_done(course) {
-        return 0;
+    // A piece of the input is taken. What it prints stands at the start of the output, which has room for it, so that no
+    // piece can fail.
+    pub fn take_piece(self, text: &[u8], memory: &mut Memory, out: &mut [u8]) -> Taken
+        requires ready { Ready self }
+        requires number { self.number + length text.now ≤ number_most }
+        requires room { answer_most * length text.now ≤ length out.old }
+        ensures { PieceTaken self text.now memory.old.shelves memory.old.packets result memory.new.shelves memory.new.packets out.new }
+    {
+        let mut course = self;
+        let mut end = 0;
+        let mut rest = text;
+        while let Some(feed) = line_end(rest) {
+            let answered = course.keep(&rest[..feed]).take_line(memory);
+            course = answered.course;
+            end = put_line(out, end, answered.line);
+            rest = &rest[feed + 1..];
+        }
+        Taken {
+            course: course.keep(rest),
+            end,
+        }
     }
-    let taken = take_line(course, shelves, packets, out, 0);
-    taken.end
-}
 
-// No line is left: line one has come, and nothing after the last line feed.
-fn is_done(course: Course) -> bool
-    ensures { result ≡ is_done course }
-{
-    let line = course.line;
-    let stage = course.stage;
-    match stage {
-        Stage::First => false,
-        Stage::Walking => line.length == 0,
-        Stage::Ended => line.length == 0,
+    // The input has ended: text after the last line feed is a line too.
+    pub fn finish(self, memory: &mut Memory, out: &mut [u8]) -> usize
+        requires ready { Ready self }
+        requires number { self.number < number_most }
+        requires room { answer_most ≤ length out.old }
+        ensures { Finished self memory.old.shelves memory.old.packets result out.new }
+    {
+        if self.is_done() {
+            return 0;
+        }
+        let answered = self.take_line(memory);
+        put_line(out, 0, answered.line)
     }
-}
 
-// Whether nothing more is printed, whatever comes.
-pub fn is_over(course: Course) -> bool
-    ensures { result ≡ is_over course.stage }
-{
-    let stage = course.stage;
-    match stage {
-        Stage::First => false,
-        Stage::Walking => false,
-        Stage::Ended => true,
+    // No line is left: line one has come, and nothing after the last line feed.
+    fn is_done(self) -> bool
+        ensures { result ≡ is_done self }
+    {
+        match self.stage {
+            Stage::First => false,
+            Stage::Walking | Stage::Ended => self.line.length == 0,
+        }
+    }
+
+    // Whether nothing more is printed, whatever comes.
+    pub fn is_over(self) -> bool
+        ensures { result ≡ is_over self.stage }
+    {
+        matches!(self.stage, Stage::Ended)
     }
 }

@@ -2,78 +2,78 @@
 ghost use Rattle.std.specs.Prelude.{◌≡◌, ℕ, ◌+◌, ◌*◌, ◌≤◌, ◌<◌, List, length};
 ghost use Rattle.shelf.specs.Shelf.{slot_size};
 ghost use Rattle.steps.specs.Session.{opened};
-ghost use Rattle.steps.specs.Memory.{slots_most, session_in, shelves_size, Bounded, AllOpened, OpenedIn};
+ghost use Rattle.steps.specs.Memory.{slots_most, session_in, Bounded, AllOpened, OpenedIn};
 
-use super::walk::Walk;
+use super::memory::{Memory, piece_at};
+use super::walk::{NO_EDIT, Walk};
 use answers::SeatNo;
 use seat::Seat;
 use shelf::SLOT_SIZE;
 
 // What stands where no seat was opened.
-fn nobody() -> Seat {
-    Seat {
-        n: 0,
-        own: SeatNo(0),
-        past: [0; 16],
-        barrier: [0; 16],
-        run: [0; 16],
-        ahead: [0; 16],
-    }
-}
+const NOBODY: Seat = Seat {
+    n: 0,
+    own: SeatNo(0),
+    past: [0; 16],
+    barrier: [0; 16],
+    run: [0; 16],
+    ahead: [0; 16],
+};
 
 // The seat at an index is opened: its number is one more.
-fn open_at(n: u8, slots: usize, at: usize, shelves: &mut [u8]) -> Seat
-    requires { (at < n) × (n ≤ 16) × (slots ≤ slots_most) × (slots * slot_size * at + slots * slot_size ≤ length shelves.old) }
-    ensures { OpenedIn n slots at shelves.old result shelves.new }
+fn open_at(n: u8, slots: usize, at: usize, memory: &mut Memory) -> Seat
+    requires at { at < n }
+    requires seats { n ≤ 16 }
+    requires slots { slots ≤ slots_most }
+    ensures { OpenedIn n slots at memory.old.shelves result memory.new.shelves }
 {
-    let size = slots * SLOT_SIZE;
-    let start = size * at;
-    let end = start + size;
     let number = at as u8 + 1;
-    let opened = Seat::open(n, SeatNo(number), &mut shelves[start..end]);
-    opened.seat
+    let shelf = &mut memory.shelves[piece_at(slots * SLOT_SIZE, at)];
+    Seat::open(n, SeatNo(number), shelf).seat
 }
 
-// Seats 1 to n are opened.
-fn open_all(n: u8, slots: usize, shelves: &mut [u8]) -> [Seat; 16]
-    requires { (n ≤ 16) × (slots ≤ slots_most) × (length shelves.old ≡ shelves_size) }
-    ensures { AllOpened n n slots result shelves.new }
+// Seats 1 to n are opened. Each goes to its own index, beside a shelf that is cut by a size, which may be 0, so the loop
+// counts.
+fn open_all(n: u8, slots: usize, memory: &mut Memory) -> [Seat; 16]
+    requires seats { n ≤ 16 }
+    requires slots { slots ≤ slots_most }
+    ensures { AllOpened n n slots result memory.new.shelves }
 {
-    let mut seats = [nobody(); 16];
+    let mut seats = [NOBODY; 16];
     for at in 0..n as usize {
-        seats[at] = open_at(n, slots, at, shelves);
+        seats[at] = open_at(n, slots, at, memory);
     }
     seats
 }
 
-// The session of n seats, each with a shelf of so many slots. The caller has found both to be in range.
-pub fn open_session(n: u8, slots: usize, shelves: &mut [u8]) -> Walk
-    requires { (n ≤ 16) × (slots ≤ slots_most) × (length shelves.old ≡ shelves_size) }
-    ensures { Bounded result × ((packets : List ℕ) → session_in result shelves.new packets ≡ opened n slots) }
-{
-    let seats = open_all(n, slots, shelves);
-    Walk {
-        n,
-        slots,
-        sends: 0,
-        letters: 0,
-        seats,
-        senders: [0; 256],
-        numbers: [0; 256],
+impl Walk {
+    // A walk of no seats, before line one.
+    pub fn new() -> Walk
+        ensures bounded { Bounded result }
+        ensures nothing_sent { result.sends ≡ 0 }
+    {
+        Walk {
+            n: 0,
+            slots: 0,
+            sends: 0,
+            letters: 0,
+            seats: [NOBODY; 16],
+            edits: [NO_EDIT; 256],
+        }
     }
-}
 
-// A walk of no seats, before line one.
-pub fn no_walk() -> Walk
-    ensures { Bounded result }
-{
-    Walk {
-        n: 0,
-        slots: 0,
-        sends: 0,
-        letters: 0,
-        seats: [nobody(); 16],
-        senders: [0; 256],
-        numbers: [0; 256],
+    // The session of n seats, each with a shelf of so many slots. The caller has found both to be in range.
+    pub fn open(n: u8, slots: usize, memory: &mut Memory) -> Walk
+        requires seats { n ≤ 16 }
+        requires slots { slots ≤ slots_most }
+        ensures bounded { Bounded result }
+        ensures session { (packets : List ℕ) → session_in result memory.new.shelves packets ≡ opened n slots }
+    {
+        Walk {
+            n,
+            slots,
+            seats: open_all(n, slots, memory),
+            ..Walk::new()
+        }
     }
 }

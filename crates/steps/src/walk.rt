@@ -1,24 +1,40 @@
 // The session that a step list walks, and its three kinds of step. The functions that ask something of their callers are
 // called once the line's numbers were found to be in range.
-ghost use Rattle.std.specs.Prelude.{◌≡◌, ℕ, ◌+◌, ◌*◌, ◌≤◌, ◌<◌, List, length};
+ghost use Rattle.std.specs.Prelude.{◌≡◌, ◌+◌, ◌*◌, ◌≤◌, ◌<◌, ◌==◌, ◌&&◌, take};
+ghost use Rattle.std.specs.List.{position};
 ghost use Rattle.answers.specs.Answers.{bare};
 ghost use Rattle.steps.specs.Session.{send_told, arrive_told, release_told, wish_of, step_told};
-ghost use Rattle.steps.specs.Memory.{shelf_size, packet_in, session_in, packets_size, shelves_size, Bounded, Walks, is_seated, found_in, with_seat, with_letter, with_send, walked_to, SentEmpty, SentAt, ArrivedAt, ReleasedAt};
+ghost use Rattle.steps.specs.Memory.{shelf_size, session_in, Bounded, Walks, index_in, with_seat, with_edit, walked_to, SentEmpty};
 
+use super::memory::{Memory, piece_at};
 use answers::{Answer, Edit, EditNo, Report, SeatNo};
 use lines::{Letter, Step};
 use packet::HEAD_LEN;
 use seat::{Seat, Stepped, Wish};
 use shelf::SLOT_SIZE;
+use std::ops::Range;
 
 // The bytes that the longest packet takes: 16 seats and no body.
-pub const PACKET_MOST: usize = 67;
+const PACKET_MOST: usize = 67;
 
 // The send lines that are taken.
-pub const SENDS_MOST: usize = 256;
+const SENDS_MOST: usize = 256;
+
+// The edit of a report that names none.
+pub const NO_EDIT: Edit = Edit {
+    sender: SeatNo(0),
+    number: EditNo(0),
+    length: 0,
+};
+
+// What a line is answered that cannot be read, or that names no seat or no packet.
+pub const UNKNOWN: Report = Report {
+    answer: 21,
+    edit: NO_EDIT,
+};
 
 // A session of n seats, each with a shelf of so many slots. Seat k's state stands at index k - 1, and its shelf at that
-// place of the shelves. Packet i was the i-th that was sent.
+// place of the shelves. Packet i was the i-th that was sent, and carries the edit at i.
 #[derive(Clone, Copy)]
 pub struct Walk {
     pub n: u8,
@@ -26,8 +42,7 @@ pub struct Walk {
     pub sends: usize,
     pub letters: usize,
     pub seats: [Seat; 16],
-    pub senders: [u8; 256],
-    pub numbers: [u16; 256],
+    pub edits: [Edit; 256],
 }
 
 // What a step was answered, and the walk after it.
@@ -37,51 +52,6 @@ pub struct Walked {
     pub report: Report,
 }
 
-fn with_seat(walk: Walk, at: usize, seat: Seat) -> Walk
-    requires { at < 16 }
-    ensures { result ≡ with_seat walk at seat }
-{
-    let mut after = walk;
-    after.seats[at] = seat;
-    after
-}
-
-// The packet that was sent last is noted.
-fn with_letter(walk: Walk, answer: Answer) -> Walk
-    requires { walk.letters < 256 }
-    ensures { result ≡ with_letter walk answer }
-{
-    match answer {
-        Answer::Done(edit) => {
-            let last = walk.letters;
-            let sender = edit.sender;
-            let number = edit.number;
-            let mut after = walk;
-            after.senders[last] = sender.0;
-            after.numbers[last] = number.0;
-            after.letters = last + 1;
-            after
-        }
-        Answer::Opened => walk,
-        Answer::Shelved => walk,
-        Answer::NothingReady => walk,
-        Answer::Refused(_) => walk,
-    }
-}
-
-// The answer of a step at the seat at an index, and its next state.
-fn moved_on(walk: Walk, at: usize, stepped: Stepped) -> Walked
-    requires { at < 16 }
-    ensures { result ≡ walked_to walk at stepped.seat stepped.answer }
-{
-    let seat = stepped.seat;
-    let answer = stepped.answer;
-    Walked {
-        walk: with_seat(walk, at, seat),
-        report: answer.report(),
-    }
-}
-
 // The send of an edit with no body, whose packet is as long as n says.
 fn send_empty(seat: Seat, wish: Wish, out: &mut [u8]) -> Stepped
     ensures { SentEmpty seat wish out.old result out.new }
@@ -89,175 +59,161 @@ fn send_empty(seat: Seat, wish: Wish, out: &mut [u8]) -> Stepped
     seat.send(wish, b"", out)
 }
 
-fn send_at(walk: Walk, at: usize, wish: Wish, packets: &mut [u8]) -> Walked
-    requires { (at < 16) × (walk.letters < 256) × (length packets.old ≡ packets_size) }
-    ensures { SentAt walk at wish packets.old result packets.new }
-{
-    let letters = walk.letters;
-    let start = PACKET_MOST * letters;
-    let end = start + PACKET_MOST;
-    let seat = walk.seats[at];
-    let sent = send_empty(seat, wish, &mut packets[start..end]);
-    let answer = sent.answer;
-    moved_on(with_letter(walk, answer), at, sent)
-}
-
-fn arrive_at(walk: Walk, at: usize, packet: &[u8], shelves: &mut [u8]) -> Walked
-    requires { (at < 16) × (walk.slots ≤ 8) × (shelf_size walk * at + shelf_size walk ≤ length shelves.old) }
-    ensures { ArrivedAt walk at packet.now shelves.old result shelves.new }
-{
-    let size = walk.slots * SLOT_SIZE;
-    let start = size * at;
-    let end = start + size;
-    let seat = walk.seats[at];
-    let arrived = seat.arrive(packet, &mut shelves[start..end]);
-    moved_on(walk, at, arrived)
-}
-
-fn release_at(walk: Walk, at: usize, shelves: &mut [u8]) -> Walked
-    requires { (at < 16) × (walk.slots ≤ 8) × (shelf_size walk * at + shelf_size walk ≤ length shelves.old) }
-    ensures { ReleasedAt walk at shelves.old result shelves.new }
-{
-    let size = walk.slots * SLOT_SIZE;
-    let start = size * at;
-    let end = start + size;
-    let seat = walk.seats[at];
-    let mut none = [0u8; 0];
-    let released = seat.release(&mut shelves[start..end], &mut none);
-    moved_on(walk, at, released)
-}
-
-// 21, and nothing changes.
-fn unknown(walk: Walk) -> Walked
-    ensures { result ≡ record { walk = walk; report = bare 21 } }
-{
-    Walked {
-        walk,
-        report: Report {
-            answer: 21,
-            edit: Edit {
-                sender: SeatNo(0),
-                number: EditNo(0),
-                length: 0,
-            },
-        },
-    }
-}
-
-fn is_seated(walk: Walk, seat: u32) -> bool
-    ensures { result ≡ is_seated walk seat }
-{
-    (1 <= seat) & (seat <= walk.n as u32)
-}
-
-// The walk with one send line more.
-fn counted(walk: Walk) -> Walk
-    requires { walk.sends < 256 }
-    ensures { result ≡ with_send walk }
-{
-    let mut after = walk;
-    after.sends = walk.sends + 1;
-    after
-}
-
-// The seat sends an edit with no body.
-fn send(walk: Walk, seat: u32, wish: Wish, packets: &mut [u8]) -> Walked
-    requires { Bounded walk × (length packets.old ≡ packets_size) }
-    ensures { (shelves : List ℕ) → Walks (send_told (session_in walk shelves packets.old) seat wish) result shelves packets.new }
-{
-    if SENDS_MOST <= walk.sends {
-        return unknown(walk);
-    }
-    let next = counted(walk);
-    if !is_seated(walk, seat) {
-        return unknown(next);
-    }
-    let at = (seat - 1) as usize;
-    send_at(next, at, wish, packets)
-}
-
-// The packet that carries this edit, or the number of packets where there is none.
-fn find(walk: Walk, sender: u32, number: u32) -> usize
-    requires { walk.letters ≤ 256 }
-    ensures { result ≡ found_in walk sender number }
-{
-    let letters = walk.letters;
-    for i in 0..letters {
-        if (walk.senders[i] as u32 == sender) & (walk.numbers[i] as u32 == number) {
-            return i;
-        }
-    }
-    letters
-}
-
-// The packet at i, as long as the session's packets are.
-fn packet_at(walk: Walk, i: usize, packets: &[u8]) -> &[u8]
-    requires { (walk.n ≤ 16) × (i < 256) × (length packets.now ≡ packets_size) }
-    ensures { result.now ≡ packet_in walk packets.now i }
-{
-    let seats = walk.n as usize;
-    let start = PACKET_MOST * i;
-    let end = start + (HEAD_LEN + 4 * seats);
-    &packets[start..end]
-}
-
-// The packet of that sender and number arrives at the seat.
-fn arrive(
-    walk: Walk,
-    seat: u32,
-    sender: u32,
-    number: u32,
-    packets: &[u8],
-    shelves: &mut [u8],
-) -> Walked
-    requires { Bounded walk × (length packets.now ≡ packets_size) × (length shelves.old ≡ shelves_size) }
-    ensures { Walks (arrive_told (session_in walk shelves.old packets.now) seat sender number) result shelves.new packets.now }
-{
-    if !is_seated(walk, seat) {
-        return unknown(walk);
-    }
-    let i = find(walk, sender, number);
-    if i == walk.letters {
-        return unknown(walk);
-    }
-    let at = (seat - 1) as usize;
-    arrive_at(walk, at, packet_at(walk, i, packets), shelves)
-}
-
-// The seat releases. Bodies are empty, and so is the output.
-fn release(walk: Walk, seat: u32, shelves: &mut [u8]) -> Walked
-    requires { Bounded walk × (length shelves.old ≡ shelves_size) }
-    ensures { (packets : List ℕ) → Walks (release_told (session_in walk shelves.old packets) seat) result shelves.new packets }
-{
-    if !is_seated(walk, seat) {
-        return unknown(walk);
-    }
-    let at = (seat - 1) as usize;
-    release_at(walk, at, shelves)
-}
-
 // A missing letter means usual.
-fn wish_of(letter: Letter) -> Wish
+fn wish_of(letter: Option<Letter>) -> Wish
     ensures { result ≡ wish_of letter }
 {
     match letter {
-        Letter::Ordinary => Wish::Ordinary,
-        Letter::Causal => Wish::Causal,
-        Letter::Missing => Wish::Usual,
+        Some(Letter::Ordinary) => Wish::Ordinary,
+        Some(Letter::Causal) => Wish::Causal,
+        None => Wish::Usual,
     }
 }
 
-// A line after the first.
-pub fn walk_step(walk: Walk, step: Step, shelves: &mut [u8], packets: &mut [u8]) -> Walked
-    requires { Bounded walk × (length shelves.old ≡ shelves_size) × (length packets.old ≡ packets_size) }
-    ensures { Walks (step_told (session_in walk shelves.old packets.old) step) result shelves.new packets.new }
+// Whether this is the edit of that sender and number.
+fn carries(edit: Edit, sender: u32, number: u32) -> bool
+    ensures { result ≡ ((edit.sender.0 == sender) && (edit.number.0 == number)) }
 {
-    match step {
-        Step::Send(seat, letter) => send(walk, seat, wish_of(letter), packets),
-        Step::Arrive(seat, sender, number) => {
-            arrive(walk, seat, sender, number, &*packets, shelves)
+    (edit.sender.0 as u32 == sender) & (edit.number.0 as u32 == number)
+}
+
+impl Walk {
+    fn with_seat(mut self, at: usize, seat: Seat) -> Walk
+        requires { at < 16 }
+        ensures { result ≡ with_seat self at seat }
+    {
+        self.seats[at] = seat;
+        self
+    }
+
+    // The packet that was sent last is noted.
+    fn with_edit(mut self, answer: Answer) -> Walk
+        requires { self.letters < 256 }
+        ensures { result ≡ with_edit self answer }
+    {
+        if let Answer::Done(edit) = answer {
+            self.edits[self.letters] = edit;
+            self.letters += 1;
         }
-        Step::Release(seat) => release(walk, seat, shelves),
-        Step::Unreadable => unknown(walk),
+        self
+    }
+
+    // The answer of a step at the seat at an index, and its next state.
+    fn moved_on(self, at: usize, stepped: Stepped) -> Walked
+        requires { at < 16 }
+        ensures { result ≡ walked_to self at stepped.seat stepped.answer }
+    {
+        let seat = stepped.seat;
+        let answer = stepped.answer;
+        Walked {
+            walk: self.with_seat(at, seat),
+            report: answer.report(),
+        }
+    }
+
+    // 21, and nothing changes.
+    fn unknown(self) -> Walked
+        ensures { result ≡ record { walk = self; report = bare 21 } }
+    {
+        Walked {
+            walk: self,
+            report: UNKNOWN,
+        }
+    }
+
+    // The index of a seat of the session.
+    fn index(self, seat: u32) -> Option<usize>
+        ensures { result ≡ index_in self seat }
+    {
+        if (1 <= seat) & (seat <= self.n as u32) {
+            return Some((seat - 1) as usize);
+        }
+        None
+    }
+
+    // Where the shelf of the seat at an index stands.
+    fn shelf(self, at: usize) -> Range<usize>
+        requires seats { at < 16 }
+        requires slots { self.slots ≤ 8 }
+        ensures start { result.start ≡ shelf_size self * at }
+        ensures end { result.end ≡ shelf_size self * at + shelf_size self }
+    {
+        piece_at(self.slots * SLOT_SIZE, at)
+    }
+
+    // The packet that carries this edit.
+    fn find(self, sender: u32, number: u32) -> Option<usize>
+        requires { self.letters ≤ 256 }
+        ensures { result ≡ position (λ edit. (edit.sender.0 == sender) && (edit.number.0 == number)) (take self.letters self.edits) }
+    {
+        let edits = &self.edits[..self.letters];
+        edits.iter().position(|edit| carries(*edit, sender, number))
+    }
+
+    // The seat sends an edit with no body.
+    fn send(self, seat: u32, wish: Wish, memory: &mut Memory) -> Walked
+        requires { Bounded self }
+        ensures { Walks (send_told (session_in self memory.old.shelves memory.old.packets) seat wish) result memory.new.shelves memory.new.packets }
+    {
+        if SENDS_MOST <= self.sends {
+            return self.unknown();
+        }
+        let next = Walk {
+            sends: self.sends + 1,
+            ..self
+        };
+        let Some(at) = next.index(seat) else {
+            return next.unknown();
+        };
+        let room = &mut memory.packets[piece_at(PACKET_MOST, next.letters)];
+        let sent = send_empty(next.seats[at], wish, room);
+        let answer = sent.answer;
+        next.with_edit(answer).moved_on(at, sent)
+    }
+
+    // The packet of that sender and number arrives at the seat.
+    fn arrive(self, seat: u32, sender: u32, number: u32, memory: &mut Memory) -> Walked
+        requires { Bounded self }
+        ensures { Walks (arrive_told (session_in self memory.old.shelves memory.old.packets) seat sender number) result memory.new.shelves memory.new.packets }
+    {
+        let Some(at) = self.index(seat) else {
+            return self.unknown();
+        };
+        let Some(i) = self.find(sender, number) else {
+            return self.unknown();
+        };
+        let seats = self.n as usize;
+        let packets = &memory.packets;
+        let shelves = &mut memory.shelves;
+        let packet = &packets[piece_at(PACKET_MOST, i)][..HEAD_LEN + 4 * seats];
+        let arrived = self.seats[at].arrive(packet, &mut shelves[self.shelf(at)]);
+        self.moved_on(at, arrived)
+    }
+
+    // The seat releases. Bodies are empty, and so is the output.
+    fn release(self, seat: u32, memory: &mut Memory) -> Walked
+        requires { Bounded self }
+        ensures { Walks (release_told (session_in self memory.old.shelves memory.old.packets) seat) result memory.new.shelves memory.new.packets }
+    {
+        let Some(at) = self.index(seat) else {
+            return self.unknown();
+        };
+        let released = self.seats[at].release(&mut memory.shelves[self.shelf(at)], &mut []);
+        self.moved_on(at, released)
+    }
+
+    // A line after the first, or none that can be read.
+    pub fn step(self, step: Option<Step>, memory: &mut Memory) -> Walked
+        requires { Bounded self }
+        ensures { Walks (step_told (session_in self memory.old.shelves memory.old.packets) step) result memory.new.shelves memory.new.packets }
+    {
+        let Some(step) = step else {
+            return self.unknown();
+        };
+        match step {
+            Step::Send(seat, letter) => self.send(seat, wish_of(letter), memory),
+            Step::Arrive(seat, sender, number) => self.arrive(seat, sender, number, memory),
+            Step::Release(seat) => self.release(seat, memory),
+        }
     }
 }

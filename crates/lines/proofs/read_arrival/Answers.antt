@@ -1,35 +1,42 @@
 -- `read_arrival` meets its contract.
-use Rattle.std.proofs.Common.{Bool, ◌&&◌, sym, ap₂, ◌∙◌}
-use Rattle.lines.proofs.Grammar.{words_of_one, words_of_more, arrival_of_one, arrival_of_two, arrival_of_many, arrival_of_three}
+use Rattle.std.proofs.Common.{ℕ, Option, sym, ap, ap₂, ◌∙◌}
+use Rattle.lines.specs.Lines.{number_of}
+use Rattle.lines.specs.declared.Step.TheVariants.{Arrive}
+use Rattle.lines.proofs.Grammar.{three_of, arrival_of_one, arrival_of_two, arrival_is}
 use Rattle.lines.proofs.read_arrival.Goals as goal
 
-pub returns-then-seat_end-rest : goal.returns-then-seat_end-rest
-returns-then-seat_end-rest c = sym (arrival_of_one _ (words_of_one _ _ c.word_end-seat_end.ensures c.if-seat_end-rest.true))
+pub returns-in_err-seat : goal.returns-in_err-seat
+returns-in_err-seat c = c.from_residual.ensures ∙ sym (arrival_of_one _ c.in_err-seat.ensures)
 
-pub returns-then-sender_end-others : goal.returns-then-sender_end-others
-returns-then-sender_end-others c =
-    let parted = words_of_more _ _ c.word_end-seat_end.ensures c.if-seat_end-rest.false in
-    sym (arrival_of_two _ _ _ parted (words_of_one _ _ c.word_end-sender_end.ensures c.if-sender_end-others.true))
+pub returns-in_err-sender : goal.returns-in_err-sender
+returns-in_err-sender c = c.from_residual-in_err-sender.ensures ∙ sym (arrival_of_two _ _ _ c.in_ok-seat.ensures c.in_err-sender.ensures)
 
-pub returns-then-word_end-number : goal.returns-then-word_end-number
-returns-then-word_end-number c =
-    let parted = words_of_more _ _ c.word_end-seat_end.ensures c.if-seat_end-rest.false in
-    let parted_again = words_of_more _ _ c.word_end-sender_end.ensures c.if-sender_end-others.false in
-    sym (arrival_of_many _ _ _ _ _ parted parted_again _ _ (words_of_more _ _ c.word_end.ensures c.if-word_end-number.true))
+pub returns-in_err-read_number : goal.returns-in_err-read_number
+returns-in_err-read_number c =
+    c.from_residual-in_err-read_number.ensures
+    ∙ ap (λ (seat : Option ℕ). three_of Arrive seat (number_of c.in_ok-sender.sender.now) (number_of c.in_ok-sender.number.now))
+    (sym c.in_err-read_number.was ∙ c.read_number.ensures)
+    ∙ sym (arrival_is _ _ _ c.in_ok-seat.ensures _ _ c.in_ok-sender.ensures)
 
-pub returns-then-not-is_number : goal.returns-then-not-is_number
-returns-then-not-is_number c =
-    let parted = words_of_more _ _ c.word_end-seat_end.ensures c.if-seat_end-rest.false in
-    let parted_again = words_of_more _ _ c.word_end-sender_end.ensures c.if-sender_end-others.false in
-    let number_alone = words_of_one _ _ c.word_end.ensures c.if-word_end-number.false in
-    let numbers = ap₂ (λ (a b : Bool). a && b) (ap₂ (λ (a b : Bool). a && b) c.is_number.ensures c.is_number-2.ensures) c.is_number-3.ensures in
-    sym (arrival_of_three _ _ _ _ _ parted parted_again _ number_alone (sym numbers ∙ c.if-not-is_number.true))
+pub returns-in_err-read_number-2 : goal.returns-in_err-read_number-2
+returns-in_err-read_number-2 c =
+    c.from_residual-in_err-read_number-2.ensures
+    ∙ ap₂ (λ (seat sender : Option ℕ). three_of Arrive seat sender (number_of c.in_ok-sender.number.now))
+    (sym c.in_ok-read_number.was ∙ c.read_number.ensures) (sym c.in_err-read_number-2.was ∙ c.read_number-2.ensures)
+    ∙ sym (arrival_is _ _ _ c.in_ok-seat.ensures _ _ c.in_ok-sender.ensures)
+
+pub returns-in_err-read_number-3 : goal.returns-in_err-read_number-3
+returns-in_err-read_number-3 c =
+    let seat = sym c.in_ok-read_number.was ∙ c.read_number.ensures in
+    let sender = sym c.in_ok-read_number-2.was ∙ c.read_number-2.ensures in
+    let number = sym c.in_err-read_number-3.was ∙ c.read_number-3.ensures in
+    c.from_residual-in_err-read_number-3.ensures
+    ∙ (λ i. three_of Arrive (seat i) (sender i) (number i))
+    ∙ sym (arrival_is _ _ _ c.in_ok-seat.ensures _ _ c.in_ok-sender.ensures)
 
 pub returns : goal.returns
 returns c =
-    let parted = words_of_more _ _ c.word_end-seat_end.ensures c.if-seat_end-rest.false in
-    let parted_again = words_of_more _ _ c.word_end-sender_end.ensures c.if-sender_end-others.false in
-    let number_alone = words_of_one _ _ c.word_end.ensures c.if-word_end-number.false in
-    let numbers = ap₂ (λ (a b : Bool). a && b) (ap₂ (λ (a b : Bool). a && b) c.is_number.ensures c.is_number-2.ensures) c.is_number-3.ensures in
-    rw (c.value_of.ensures, c.value_of-2.ensures, c.value_of-3.ensures)
-    (sym (arrival_of_three _ _ _ _ _ parted parted_again _ number_alone (sym numbers ∙ c.if-not-is_number.false)))
+    let seat = sym c.in_ok-read_number.was ∙ c.read_number.ensures in
+    let sender = sym c.in_ok-read_number-2.was ∙ c.read_number-2.ensures in
+    let number = sym c.in_ok-read_number-3.was ∙ c.read_number-3.ensures in
+    (λ i. three_of Arrive (seat i) (sender i) (number i)) ∙ sym (arrival_is _ _ _ c.in_ok-seat.ensures _ _ c.in_ok-sender.ensures)

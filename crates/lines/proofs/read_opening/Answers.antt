@@ -1,28 +1,25 @@
 -- `read_opening` meets its contract.
-use Rattle.std.proofs.Common.{Bool, ◌&&◌, sym, ap₂, ◌∙◌}
-use Rattle.lines.specs.declared.Opening.TheVariants.{Session}
-use Rattle.lines.proofs.Grammar.{words_of_one, words_of_more, opening_of_one, opening_of_many, opening_of_two}
+use Rattle.std.proofs.Common.{ℕ, Option, sym, ap, ap₂, ◌∙◌}
+use Rattle.lines.specs.Lines.{number_of}
+use Rattle.lines.proofs.Grammar.{two_of, opening, opening_of_one, opening_is}
 use Rattle.lines.proofs.read_opening.Goals as goal
 
-pub returns-then-end-line : goal.returns-then-end-line
-returns-then-end-line c = sym (opening_of_one _ (words_of_one _ _ c.word_end-end.ensures c.if-end-line.true))
+pub returns-in_err-n : goal.returns-in_err-n
+returns-in_err-n c = c.from_residual.ensures ∙ sym (opening_of_one _ c.in_err-n.ensures)
 
-pub returns-then-word_end-slots : goal.returns-then-word_end-slots
-returns-then-word_end-slots c =
-    let parted = words_of_more _ _ c.word_end-end.ensures c.if-end-line.false in
-    sym (opening_of_many _ _ _ _ _ parted (words_of_more _ _ c.word_end.ensures c.if-word_end-slots.true))
+pub returns-in_err-read_number : goal.returns-in_err-read_number
+returns-in_err-read_number c =
+    c.from_residual-in_err-read_number.ensures
+    ∙ ap (λ (n : Option ℕ). two_of opening n (number_of c.in_ok-n.slots.now)) (sym c.in_err-read_number.was ∙ c.read_number.ensures)
+    ∙ sym (opening_is _ _ _ c.in_ok-n.ensures)
 
-pub returns-then-not-is_number : goal.returns-then-not-is_number
-returns-then-not-is_number c =
-    let parted = words_of_more _ _ c.word_end-end.ensures c.if-end-line.false in
-    let slots_alone = words_of_one _ _ c.word_end.ensures c.if-word_end-slots.false in
-    let numbers = ap₂ (λ (a b : Bool). a && b) c.is_number.ensures c.is_number-2.ensures in
-    sym (opening_of_two _ _ _ _ parted slots_alone (sym numbers ∙ c.if-not-is_number.true))
+pub returns-in_err-read_number-2 : goal.returns-in_err-read_number-2
+returns-in_err-read_number-2 c =
+    c.from_residual-in_err-read_number-2.ensures
+    ∙ ap₂ (two_of opening) (sym c.in_ok-read_number.was ∙ c.read_number.ensures) (sym c.in_err-read_number-2.was ∙ c.read_number-2.ensures)
+    ∙ sym (opening_is _ _ _ c.in_ok-n.ensures)
 
 pub returns : goal.returns
 returns c =
-    let parted = words_of_more _ _ c.word_end-end.ensures c.if-end-line.false in
-    let slots_alone = words_of_one _ _ c.word_end.ensures c.if-word_end-slots.false in
-    let numbers = ap₂ (λ (a b : Bool). a && b) c.is_number.ensures c.is_number-2.ensures in
-    ap₂ Session c.value_of.ensures c.value_of-2.ensures
-    ∙ sym (opening_of_two _ _ _ _ parted slots_alone (sym numbers ∙ c.if-not-is_number.false))
+    ap₂ (two_of opening) (sym c.in_ok-read_number.was ∙ c.read_number.ensures) (sym c.in_ok-read_number-2.was ∙ c.read_number-2.ensures)
+    ∙ sym (opening_is _ _ _ c.in_ok-n.ensures)

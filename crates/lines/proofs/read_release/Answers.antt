@@ -1,17 +1,12 @@
 -- `read_release` meets its contract.
 use Rattle.std.proofs.Common.{sym, ap, ◌∙◌}
+use Rattle.std.specs.Prelude.{option_map}
 use Rattle.lines.specs.declared.Step.TheVariants.{Release}
-use Rattle.lines.proofs.Grammar.{words_of_one, words_of_more, release_of_more, release_of_one}
+use Rattle.lines.proofs.Grammar.{release_is}
 use Rattle.lines.proofs.read_release.Goals as goal
 
-pub returns-then-word_end-rest : goal.returns-then-word_end-rest
-returns-then-word_end-rest c = sym (release_of_more _ _ _ (words_of_more _ _ c.word_end.ensures c.if-word_end-rest.true))
-
-pub returns-then-not-is_number : goal.returns-then-not-is_number
-returns-then-not-is_number c =
-    sym (release_of_one _ _ (words_of_one _ _ c.word_end.ensures c.if-word_end-rest.false) (sym c.is_number.ensures ∙ c.if-not-is_number.true))
+pub returns-in_err-read_number : goal.returns-in_err-read_number
+returns-in_err-read_number c = c.from_residual.ensures ∙ ap (option_map Release) (sym c.in_err-read_number.was ∙ c.read_number.ensures) ∙ sym (release_is _)
 
 pub returns : goal.returns
-returns c =
-    ap Release c.value_of.ensures
-    ∙ sym (release_of_one _ _ (words_of_one _ _ c.word_end.ensures c.if-word_end-rest.false) (sym c.is_number.ensures ∙ c.if-not-is_number.false))
+returns c = ap (option_map Release) (sym c.in_ok-read_number.was ∙ c.read_number.ensures) ∙ sym (release_is _)

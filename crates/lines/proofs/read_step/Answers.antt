@@ -1,29 +1,47 @@
 -- `read_step` meets its contract.
-use Rattle.std.proofs.Common.{sym, ◌∙◌}
-use Rattle.lines.proofs.Grammar.{words_of_one, words_of_more, step_of_one, step_of_s, step_of_a, step_of_r, step_of_none}
+use Rattle.std.proofs.Common.{◌≡◌, true, false, sym, ◌∙◌, rules}
+use Rattle.lines.specs.Lines.{is_letter}
+use Rattle.lines.proofs.Grammar.{step_of_one, step_is}
 use Rattle.lines.proofs.read_step.Goals as goal
 
-pub returns-then-end-line : goal.returns-then-end-line
-returns-then-end-line c = sym (step_of_one _ (words_of_one _ _ c.word_end-end.ensures c.if-end-line.true))
+pub returns-in_err-letter : goal.returns-in_err-letter
+returns-in_err-letter c = c.from_residual.ensures ∙ sym (step_of_one _ c.in_err-letter.ensures)
 
-pub returns-then-is_letter : goal.returns-then-is_letter
-returns-then-is_letter c =
-    let parted = words_of_more _ _ c.word_end-end.ensures c.if-end-line.false in
-    c.read_send.ensures ∙ sym (step_of_s _ _ _ parted (sym c.is_letter.ensures ∙ c.if-is_letter.true))
+pub returns-in-s : goal.returns-in-s
+returns-in-s c =
+    let s : is_letter 115 c.in_ok-letter.letter.now ≡ true = search rules in
+    c.read_send.ensures ∙ sym (step_is _ _ _ c.in_ok-letter.ensures ∙ rw s)
 
-pub returns-then-is_letter-2 : goal.returns-then-is_letter-2
-returns-then-is_letter-2 c =
-    let parted = words_of_more _ _ c.word_end-end.ensures c.if-end-line.false in
-    c.read_arrival.ensures
-    ∙ sym (step_of_a _ _ _ parted (sym c.is_letter.ensures ∙ c.if-is_letter.false) (sym c.is_letter-2.ensures ∙ c.if-is_letter-2.true))
+pub returns-in-a : goal.returns-in-a
+returns-in-a c =
+    let s : is_letter 115 c.in_ok-letter.letter.now ≡ false = search rules in
+    let a : is_letter 97 c.in_ok-letter.letter.now ≡ true = search rules in
+    c.read_arrival.ensures ∙ sym (step_is _ _ _ c.in_ok-letter.ensures ∙ rw (s, a))
 
-pub returns-then-is_letter-3 : goal.returns-then-is_letter-3
-returns-then-is_letter-3 c =
-    let parted = words_of_more _ _ c.word_end-end.ensures c.if-end-line.false in
-    c.read_release.ensures
-    ∙ sym (step_of_r _ _ _ parted (sym c.is_letter.ensures ∙ c.if-is_letter.false) (sym c.is_letter-2.ensures ∙ c.if-is_letter-2.false) (sym c.is_letter-3.ensures ∙ c.if-is_letter-3.true))
+pub returns-in-r : goal.returns-in-r
+returns-in-r c =
+    let s : is_letter 115 c.in_ok-letter.letter.now ≡ false = search rules in
+    let a : is_letter 97 c.in_ok-letter.letter.now ≡ false = search rules in
+    let r : is_letter 114 c.in_ok-letter.letter.now ≡ true = search rules in
+    c.read_release.ensures ∙ sym (step_is _ _ _ c.in_ok-letter.ensures ∙ rw (s, a, r))
 
-pub returns : goal.returns
-returns c =
-    let parted = words_of_more _ _ c.word_end-end.ensures c.if-end-line.false in
-    sym (step_of_none _ _ _ parted (sym c.is_letter.ensures ∙ c.if-is_letter.false) (sym c.is_letter-2.ensures ∙ c.if-is_letter-2.false) (sym c.is_letter-3.ensures ∙ c.if-is_letter-3.false))
+pub returns-in_default : goal.returns-in_default
+returns-in_default c =
+    let s : is_letter 115 c.in_ok-letter.letter.now ≡ false = search rules in
+    let a : is_letter 97 c.in_ok-letter.letter.now ≡ false = search rules in
+    let r : is_letter 114 c.in_ok-letter.letter.now ≡ false = search rules in
+    sym (step_is _ _ _ c.in_ok-letter.ensures ∙ rw (s, a, r))
+
+pub returns-in_default-2 : goal.returns-in_default-2
+returns-in_default-2 c =
+    let s : is_letter 115 c.in_ok-letter.letter.now ≡ false = search rules in
+    let a : is_letter 97 c.in_ok-letter.letter.now ≡ false = search rules in
+    let r : is_letter 114 c.in_ok-letter.letter.now ≡ false = search rules in
+    sym (step_is _ _ _ c.in_ok-letter.ensures ∙ rw (s, a, r))
+
+pub returns-in_default-3 : goal.returns-in_default-3
+returns-in_default-3 c =
+    let s : is_letter 115 c.in_ok-letter.letter.now ≡ false = search rules in
+    let a : is_letter 97 c.in_ok-letter.letter.now ≡ false = search rules in
+    let r : is_letter 114 c.in_ok-letter.letter.now ≡ false = search rules in
+    sym (step_is _ _ _ c.in_ok-letter.ensures ∙ rw (s, a, r))

@@ -2,5 +2,5 @@ use Rattle.std.proofs.Common.{◌≡◌, ◌≤◌, length}
 use Rattle.lines.specs.Lines.{value_of}
 use Rattle.lines.proofs.value_of.Given as goal
 
-abbrev pub invariant-loop-k : goal.invariant-loop-k
-invariant-loop-k l = (l.k ≤ length l.word) × (l.value ≡ value_of l.k l.word)
+abbrev pub invariant-loop-byte : goal.invariant-loop-byte
+invariant-loop-byte l = (l.byte-index ≤ length l.word) × (l.value ≡ value_of l.byte-index l.word)

@@ -1,26 +1,24 @@
 -- `take_opening` meets its contract.
-use Rattle.std.proofs.Common.{sym, ap, ◌∙◌}
+use Rattle.std.proofs.Common.{Option, sym, ap, ◌∙◌}
 use Rattle.lines.specs.declared.Opening.{Opening}
 use Rattle.steps.specs.Printed.{walked_from}
 use Rattle.steps.proofs.Printing.{good_opening, bad_opening, taken_alike}
 use Rattle.steps.proofs.list.take_opening.Goals as goal
 
+pub returns-in_default : goal.returns-in_default
+returns-in_default c =
+    λ number. taken_alike (λ lines. ap (λ (o : Option Opening). walked_from o lines) c.in_default.ensures) (c.refuse_list.ensures number _ _)
+
 pub returns-then-n-slots : goal.returns-then-n-slots
 returns-then-n-slots c =
-    λ number packets.
+    λ number.
     taken_alike
-    (λ lines. sym (good_opening c.in-Session.n c.in-Session.slots lines c.if-n-slots.true) ∙ ap (λ (o : Opening). walked_from o lines) (sym c.in-Session.is ∙ c.read_opening-opening.ensures))
-    (c.begin.ensures number packets c.args.out.now)
+    (λ lines. sym (good_opening c.in-Some.field-0 lines c.if-n-slots.true) ∙ ap (λ (o : Option Opening). walked_from o lines) c.in-Some.ensures)
+    (c.begin.ensures number)
 
-pub returns-else-n-slots : goal.returns-else-n-slots
-returns-else-n-slots c =
-    λ number packets.
+pub returns : goal.returns
+returns c =
+    λ number.
     taken_alike
-    (λ lines. sym (bad_opening c.in-Session.n c.in-Session.slots lines c.if-n-slots.false) ∙ ap (λ (o : Opening). walked_from o lines) (sym c.in-Session.is ∙ c.read_opening-opening.ensures))
-    (c.refuse_list.ensures number c.args.shelves.now packets)
-
-pub returns-in-Bad : goal.returns-in-Bad
-returns-in-Bad c =
-    λ number packets.
-    taken_alike (λ lines. ap (λ (o : Opening). walked_from o lines) (sym c.in-Bad.is ∙ c.read_opening-opening.ensures))
-    (c.refuse_list-in-Bad.ensures number c.args.shelves.now packets)
+    (λ lines. sym (bad_opening c.in-Some.field-0 lines c.if-n-slots.false) ∙ ap (λ (o : Option Opening). walked_from o lines) c.in-Some.ensures)
+    (c.refuse_list-2.ensures number _ _)

@@ -1,8 +1,12 @@
 -- `open_at` meets its contract.
-use Rattle.steps.proofs.Opened.{opened_at}
+use Rattle.std.proofs.Common.{◌≡◌, length, rules}
+use Rattle.steps.specs.Memory.{shelves_size}
+use Rattle.steps.proofs.Opened.{opened_inside, opened_at}
 use Rattle.steps.proofs.opening.open_at.Goals as goal
 
 pub returns : goal.returns
 returns c =
     let a = c.args in
-    opened_at a.n a.slots a.at c.requires.0 c.requires.1 c.requires.2 a.shelves.now c.open-opened.result _ c.requires.3 c.open-opened.ensures
+    let long : length a.memory.now.shelves ≡ shelves_size = search rules in
+    let inside = opened_inside a.n a.slots c.requires.seats c.requires.slots a.memory.now.shelves a.at long c.requires.at in
+    opened_at a.n a.slots a.at c.requires.at c.requires.seats c.requires.slots a.memory.now.shelves _ _ c.open.result _ inside c.piece_at.ensures.start c.piece_at.ensures.end c.open.ensures

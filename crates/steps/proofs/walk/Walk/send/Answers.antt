@@ -1,0 +1,33 @@
+-- `send` meets its contract.
+use Rattle.std.proofs.Common.{◌≡◌, ◌<◌, length, take, drop, ◌-◌, rules, arith}
+use Rattle.steps.specs.Session.{sends_most}
+use Rattle.steps.specs.Memory.{packets_size, with_send}
+use Rattle.steps.proofs.Held.{indexed}
+use Rattle.steps.proofs.Walking.{unknown_walks}
+use Rattle.steps.proofs.Sends.{too_many_sends, nobody_sends, counted_bounded, sent_walks}
+use Rattle.steps.proofs.walk.Walk.send.Goals as goal
+
+pub returns-then-self-ge-SENDS_MOST : goal.returns-then-self-ge-SENDS_MOST
+returns-then-self-ge-SENDS_MOST c =
+    let a = c.args in
+    unknown_walks a.self a.memory.now.shelves a.memory.now.packets _ c.unknown.result c.requires
+    (too_many_sends a.self a.memory.now.shelves a.memory.now.packets a.seat a.wish c.if-self-ge-SENDS_MOST.true) c.unknown.ensures
+
+pub returns-in_default : goal.returns-in_default
+returns-in_default c =
+    let a = c.args in
+    let few : a.self.sends < sends_most = omega arith in
+    unknown_walks (with_send a.self) a.memory.now.shelves a.memory.now.packets _ c.unknown-in_default.result (counted_bounded a.self c.requires few)
+    (nobody_sends a.self a.memory.now.shelves a.memory.now.packets a.seat a.wish few (indexed (with_send a.self) a.seat _ c.in_default.ensures))
+    c.unknown-in_default.ensures
+
+pub returns : goal.returns
+returns c =
+    let a = c.args in
+    let few : a.self.sends < sends_most = omega arith in
+    let room = c.piece_at.result in
+    let packets_long : length a.memory.now.packets ≡ packets_size = search rules in
+    let as_long : length c.send_empty-sent.new.out ≡ length (take (room.end - room.start) (drop room.start a.memory.now.packets)) = search rules in
+    sent_walks a.self c.requires few a.memory.now.shelves a.memory.now.packets packets_long a.seat c.in-Some.at (indexed (with_send a.self) a.seat _ c.in-Some.ensures)
+    a.wish c.with_edit.result c.send_empty-sent.result _ c.moved_on.result room.start room.end c.piece_at.ensures.start c.piece_at.ensures.end as_long
+    c.send_empty-sent.ensures c.with_edit.ensures c.moved_on.ensures
