@@ -5,7 +5,7 @@ ghost use Rattle.std.specs.Prelude.{◌≡◌, ◌-◌, ◌≤◌};
 ghost use Rattle.answers.specs.Answers.{refusal_number, bare, report};
 
 // A seat's number, 1 to n.
-#[derive(Clone, Copy, Default)]
+#[derive(Clone, Copy, Default, PartialEq, Eq, PartialOrd, Ord)]
 pub struct SeatNo(pub u8);
 
 impl SeatNo {
@@ -19,7 +19,7 @@ impl SeatNo {
 }
 
 // An edit's sequence number among its sender's, from 1.
-#[derive(Clone, Copy, Default)]
+#[derive(Clone, Copy, Default, PartialEq, Eq, PartialOrd, Ord)]
 pub struct EditNo(pub u16);
 
 // An edit that a call is done with: who sent it, its number, and the length of its packet or body.

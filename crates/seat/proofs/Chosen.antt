@@ -46,7 +46,7 @@ module _ (one other : List ℕ) where
   no_later_of (inr (same, low)) =
       rw (le-ltb (sender_of one).0 (sender_of other).0 (omega arith), eq-eqb (sender_of one).0 (sender_of other).0 same) (le-leb (number_of one) (number_of other) low)
 
-  one_is_no_later : NoLater one other ⊎ NoLater other one
+  pub one_is_no_later : NoLater one other ⊎ NoLater other one
   one_is_no_later =
       elim (dec_lt (sender_of one).0 (sender_of other).0) [
         | yes less ↦ inl (inl less)
@@ -59,7 +59,7 @@ module _ (one other : List ℕ) where
         ]
       ]
 
-in_turn : (one other third : List ℕ) → NoLater one other → NoLater other third → NoLater one third
+pub in_turn : (one other third : List ℕ) → NoLater one other → NoLater other third → NoLater one third
 in_turn one other third (inl less) (inl also) = inl (omega arith)
 in_turn one other third (inl less) (inr (same, low)) = inl (omega arith)
 in_turn one other third (inr (same, low)) (inl less) = inl (omega arith)

@@ -1,169 +1,193 @@
--- Laws of the ready packet that comes first on the first n slots: by key, one slot more, and at the end of the shelf.
-use Prim.Native.Nat.{ℕ, ◌+◌, ◌≤◌, ◌<◌}
-use mathlib.Core.Path.{◌≡◌, refl, sym, ◌∙◌}
+-- Laws of the ready packet that comes first on the first n slots: one slot more, and at the end of the shelf.
+use Prim.Native.Nat.{ℕ, ◌+◌, ◌<◌}
+use mathlib.Core.Path.{◌≡◌, refl, sym, ap, ◌∙◌}
 use mathlib.Core.Bool.{Bool, true, false, cond, not, ◌&&◌, ◌||◌, true≢false}
 use mathlib.Core.List.{List}
-use native.Mathlib.Decide.{ℕ_discrete, dec_lt}
+use mathlib.Core.Logic.{inl, inr}
+use native.Mathlib.Decide.{dec_lt}
+use native.Mathlib.Nat.{le_antisymm}
 use native.Mathlib.Omega.{arith}
-use lib.Dec.{ltb}
+use lib.Dec.{leb, ltb, eqb}
 use borrow.Author.Count.{below_more}
-use borrow.Author.Tests.{eq-eqb, ne_eqb, lt-ltb, le-ltb, le-leb, lt-leb, ltb-true, ltb-false}
+use borrow.Author.Tests.{eq-eqb, ne_eqb, lt-ltb, le-ltb, le-leb, lt-leb}
+use Rattle.std.specs.Prelude.{Option, Some, None, is_some}
+use Rattle.answers.specs.Answers.{edit_no}
+use Rattle.answers.specs.declared.SeatNo.{SeatNo}
 use Rattle.vectors.proofs.Every.{all_of, all_fails}
 use Rattle.packet.specs.Packet.{sender_of, barrier_of}
-use Rattle.shelf.specs.Shelf.{slots, is_free}
-use Rattle.shelf.proofs.Lowest.{only_lowest}
+use Rattle.shelf.specs.Shelf.{slots, is_free, slot_or_none}
+use Rattle.shelf.proofs.Lowest.{only_lowest, none_of, some_of, none_is_past, some_is_it}
 use Rattle.seat.specs.Stock.{packet_at, number_of}
 use Rattle.seat.specs.HandingOver.{ready}
 use Rattle.seat.specs.Releasing.{ready_at, no_later, comes_first, chosen}
-use Rattle.seat.specs.Survey.{key_of, key_at, no_key, FirstReady}
+use Rattle.seat.specs.Survey.{is_sooner, first_with, first_slot, ComesFirst, FirstReady}
 use Rattle.seat.specs.declared.Seat.{Seat}
+use Rattle.seat.specs.declared.stock.Ready.{Ready}
+use Rattle.seat.proofs.SlotBySlot.{false_unless}
+use Rattle.seat.proofs.Chosen.{no_later_says, no_later_of, one_is_no_later, in_turn, chosen_is_at_most_slots, none_ready_is_none_chosen}
 
--- ---- the order of release is the order of keys
+-- ---- the order of release
 
-module _ (one other : List ℕ) (one-count : number_of one < 65536) (other-count : number_of other < 65536) where
-  pub lower_key_is_no_later : key_of (sender_of one) (number_of one) ≤ key_of (sender_of other) (number_of other) → no_later one other ≡ true
-  unfolding no_later
-  lower_key_is_no_later lower =
-      elim (dec_lt (sender_of one).0 (sender_of other).0) [
-        | yes less ↦ rw (lt-ltb (sender_of one).0 (sender_of other).0 less)
-        | no more ↦ let same : (sender_of one).0 ≡ (sender_of other).0 = omega arith in
-            rw (le-ltb (sender_of one).0 (sender_of other).0 (omega arith), eq-eqb (sender_of one).0 (sender_of other).0 same)
-            (le-leb (number_of one) (number_of other) (omega arith))
+own_turn : (one : List ℕ) → no_later one one ≡ true
+own_turn one = elim (one_is_no_later one one) [ inl e ↦ no_later_of one one e | inr e ↦ no_later_of one one e ]
+
+turned : (one other : List ℕ) → no_later one other ≡ false → no_later other one ≡ true
+turned one other later =
+    elim (one_is_no_later one other) [
+      | inl e ↦ absurd (true≢false (sym (no_later_of one other e) ∙ later))
+      | inr e ↦ no_later_of other one e
+    ]
+
+in_order : (one other third : List ℕ) → no_later one other ≡ true → no_later other third ≡ true → no_later one third ≡ true
+in_order one other third h k = no_later_of one third (in_turn one other third (no_later_says one other h) (no_later_says other third k))
+
+-- what comes no sooner than the later of two comes later than the sooner
+later_still : (one other third : List ℕ) → no_later one other ≡ false → no_later one third ≡ true → no_later third other ≡ false
+later_still one other third later h =
+    false_unless (no_later third other) (λ e. true≢false (sym (in_order one third other h e) ∙ later))
+
+-- the test of two packets that were read is their order
+sooner_is_not_later : (s n t m : ℕ) → (ltb s t || (eqb s t && ltb n m)) ≡ not (ltb t s || (eqb t s && leb m n))
+sooner_is_not_later s n t m =
+    elim (dec_lt s t) [
+      | yes less ↦ rw (lt-ltb s t less, le-ltb t s (omega arith), ne_eqb t s (λ e. omega arith))
+      | no more ↦ elim (dec_lt t s) [
+        | yes greater ↦ rw (le-ltb s t (omega arith), ne_eqb s t (λ e. omega arith), lt-ltb t s greater)
+        | no fewer ↦ elim (dec_lt n m) [
+          | yes low ↦ rw (le-ltb s t (omega arith), le-ltb t s (omega arith), eq-eqb s t (omega arith), eq-eqb t s (omega arith), lt-ltb n m low, lt-leb m n low)
+          | no high ↦ rw (le-ltb s t (omega arith), le-ltb t s (omega arith), eq-eqb s t (omega arith), eq-eqb t s (omega arith), le-ltb n m (omega arith), le-leb m n (omega arith))
+        ]
       ]
+    ]
 
-  pub higher_key_is_later : key_of (sender_of other) (number_of other) < key_of (sender_of one) (number_of one) → no_later one other ≡ false
-  unfolding no_later
-  higher_key_is_later higher =
-      elim (ℕ_discrete (sender_of one).0 (sender_of other).0) [
-        | yes same ↦ rw (le-ltb (sender_of one).0 (sender_of other).0 (omega arith), eq-eqb (sender_of one).0 (sender_of other).0 same)
-            (lt-leb (number_of one) (number_of other) (omega arith))
-        | no differ ↦ rw (le-ltb (sender_of one).0 (sender_of other).0 (omega arith), ne_eqb (sender_of one).0 (sender_of other).0 differ)
-      ]
+sooner_is : (one other : Ready) (p q : List ℕ) → one.sender.0 ≡ (sender_of p).0 → one.number.0 ≡ number_of p → other.sender.0 ≡ (sender_of q).0 → other.number.0 ≡ number_of q
+    → is_sooner one other ≡ not (no_later q p)
+unfolding no_later
+sooner_is one other p q s n t m =
+    (λ i. ltb (s i) (t i) || (eqb (s i) (t i) && ltb (n i) (m i))) ∙ sooner_is_not_later (sender_of p).0 (number_of p) (sender_of q).0 (number_of q)
+
+turned_not : (b c : Bool) → b ≡ not c → b ≡ true → c ≡ false
+turned_not b true e is = absurd (true≢false (sym is ∙ e))
+turned_not b false e is = refl
+
+stays_not : (b c : Bool) → b ≡ not c → b ≡ false → c ≡ true
+stays_not b true e is = refl
+stays_not b false e is = absurd (true≢false (sym e ∙ is))
 
 -- ---- one slot more
 
-module _ (seat : Seat) (shelf : List ℕ) where
-  pub none_ready_on_no_slots : FirstReady 0 seat shelf (slots shelf) no_key
-  none_ready_on_no_slots =
+module _ (seat : Seat) (shelf : List ℕ) (i : ℕ) where
+  pub slot_not_ready : (first : Option Ready) → FirstReady i seat shelf first → ready_at seat shelf i ≡ false → FirstReady (i + 1) seat shelf first
+  slot_not_ready None so waits = below_more _ i so waits
+  slot_not_ready (Some first) so waits =
       record {
-        counts = λ k h. absurd (omega arith);
-        least = λ k h. absurd (omega arith);
-        lowest = λ k h. absurd (omega arith);
-        found = λ h. absurd (omega arith);
-        none = λ h. (refl, λ k l. absurd (omega arith));
+        there = omega (arith, so.there);
+        is_ready = so.is_ready;
+        sender_is = so.sender_is;
+        number_is = so.number_is;
+        least = below_more _ i so.least (λ is. absurd (true≢false (sym is ∙ waits)));
+        lowest = so.lowest;
       }
 
-  module _ (i first key : ℕ) (so : FirstReady i seat shelf first key) where
-    pub slot_not_ready : ready_at seat shelf i ≡ false → FirstReady (i + 1) seat shelf first key
-    slot_not_ready waits =
+  module _ (sender : SeatNo) (number : ℕ) (from : sender.0 ≡ (sender_of (packet_at shelf i)).0) (own : number ≡ number_of (packet_at shelf i)) where
+    abbrev next : Ready
+    next = record { slot = i; sender = sender; number = edit_no number }
+
+    alone : ((k : ℕ) → k < i → ready_at seat shelf k ≡ false) → ready_at seat shelf i ≡ true → ComesFirst (i + 1) seat shelf next
+    alone none is =
         record {
-          counts = below_more _ i so.counts never;
-          least = below_more _ i so.least never;
-          lowest = below_more _ i so.lowest (λ l. never);
-          found = λ h. let was = so.found h in (omega (arith, was.0), was.1, was.2);
-          none = λ h. ((so.none h).0, below_more _ i (so.none h).1 waits);
+          there = omega arith;
+          is_ready = is;
+          sender_is = from;
+          number_is = own;
+          least = below_more _ i (λ k h also. absurd (true≢false (sym also ∙ none k h))) (λ also. own_turn (packet_at shelf i));
+          lowest = λ k h also. absurd (true≢false (sym also ∙ none k h));
         }
-      where
-        never : {A : Type 0} → ready_at seat shelf i ≡ true → A
-        never is = absurd (true≢false (sym is ∙ waits))
 
-    module _ (count : number_of (packet_at shelf i) < 65536) (fits : key_at shelf i < no_key) where
-      pub slot_later : key ≤ key_at shelf i → FirstReady (i + 1) seat shelf first key
-      slot_later later =
+    module _ (first : Ready) (so : ComesFirst i seat shelf first) where
+      stays_first : no_later (packet_at shelf first.slot) (packet_at shelf i) ≡ true → ComesFirst (i + 1) seat shelf first
+      stays_first later =
           record {
-            counts = below_more _ i so.counts (λ is. count);
+            there = omega (arith, so.there);
+            is_ready = so.is_ready;
+            sender_is = so.sender_is;
+            number_is = so.number_is;
             least = below_more _ i so.least (λ is. later);
-            lowest = below_more _ i so.lowest (λ l is. absurd (omega (arith, (so.found (omega arith)).0)));
-            found = λ h. let was = so.found h in (omega (arith, was.0), was.1, was.2);
-            none = λ h. absurd (omega arith);
+            lowest = so.lowest;
           }
 
-      pub slot_sooner : ready_at seat shelf i ≡ true → key_at shelf i < key → FirstReady (i + 1) seat shelf i (key_at shelf i)
-      slot_sooner is sooner =
+      now_first : ready_at seat shelf i ≡ true → no_later (packet_at shelf first.slot) (packet_at shelf i) ≡ false → ComesFirst (i + 1) seat shelf next
+      now_first is sooner =
           record {
-            counts = below_more _ i so.counts (λ here. count);
-            least = below_more _ i (λ k h here. omega (arith, so.least k h here)) (λ here. omega arith);
-            lowest = below_more _ i (λ k h l here. omega (arith, so.least k h here)) (λ l here. absurd (omega arith));
-            found = λ h. (omega arith, is, refl);
-            none = λ h. absurd (omega arith);
+            there = omega arith;
+            is_ready = is;
+            sender_is = from;
+            number_is = own;
+            least = below_more _ i
+                (λ k h also. in_order (packet_at shelf i) (packet_at shelf first.slot) (packet_at shelf k) (turned (packet_at shelf first.slot) (packet_at shelf i) sooner) (so.least k h also))
+                (λ also. own_turn (packet_at shelf i));
+            lowest = λ k h also. later_still (packet_at shelf first.slot) (packet_at shelf i) (packet_at shelf k) sooner (so.least k h also);
           }
 
-      -- the slot of the lower key
-      lower_slot : (is lower : Bool) → ready_at seat shelf i ≡ is → ltb (key_at shelf i) key ≡ lower
-          → FirstReady (i + 1) seat shelf (cond (is && lower) i first) (cond (is && lower) (key_at shelf i) key)
-      lower_slot true true is lower = slot_sooner is (ltb-true (key_at shelf i) key lower)
-      lower_slot true false is lower = slot_later (ltb-false (key_at shelf i) key lower)
-      lower_slot false lower is e = slot_not_ready is
+      order : is_sooner next first ≡ not (no_later (packet_at shelf first.slot) (packet_at shelf i))
+      order = sooner_is next first (packet_at shelf i) (packet_at shelf first.slot) from own so.sender_is so.number_is
 
-      pub used_slot_compared : is_free shelf i ≡ false → (sooner : Bool) → sooner ≡ (ready seat (barrier_of (packet_at shelf i)) && ltb (key_at shelf i) key)
-          → FirstReady (i + 1) seat shelf (cond sooner i first) (cond sooner (key_at shelf i) key)
-      unfolding ready_at
-      used_slot_compared used sooner e = rw e (lower_slot (ready seat (barrier_of (packet_at shelf i))) (ltb (key_at shelf i) key) (rw used) refl)
+      compared : (is sooner : Bool) → ready_at seat shelf i ≡ is → is_sooner next first ≡ sooner → FirstReady (i + 1) seat shelf (cond (is && sooner) (Some next) (Some first))
+      compared true true is e = now_first is (turned_not _ _ order e)
+      compared true false is e = stays_first (stays_not _ _ order e)
+      compared false sooner is e = slot_not_ready (Some first) so is
+
+    counted : (first : Option Ready) → FirstReady i seat shelf first → (is : Bool) → ready_at seat shelf i ≡ is → FirstReady (i + 1) seat shelf (first_with is first next)
+    counted None so true is = alone so is
+    counted None so false is = slot_not_ready None so is
+    counted (Some first) so is e = compared first so is (is_sooner next first) e refl
+
+    pub used_slot_counted : (first : Option Ready) → FirstReady i seat shelf first → is_free shelf i ≡ false
+        → FirstReady (i + 1) seat shelf (first_with (ready seat (barrier_of (packet_at shelf i))) first next)
+    unfolding ready_at
+    used_slot_counted first so used = counted first so (ready seat (barrier_of (packet_at shelf i))) (rw used)
 
 -- ---- the end of the shelf
+
+no_slot : (first : Option Ready) → ((one : Ready) → first ≡ Some one → ⊥) → is_some (first_slot first) ≡ false
+no_slot None none = refl
+no_slot (Some one) none = absurd (none one refl)
 
 module _ (seat : Seat) (shelf : List ℕ) where
   pub free_slot_is_not_ready : (i : ℕ) → is_free shelf i ≡ true → ready_at seat shelf i ≡ false
   unfolding ready_at
   free_slot_is_not_ready i free = rw free
 
-  not_ready_is_not_first : (n i : ℕ) → ready_at seat shelf i ≡ false → comes_first n seat shelf i ≡ false
-  unfolding comes_first
-  not_ready_is_not_first n i waits = rw waits
+  module _ (first : Ready) (so : ComesFirst (slots shelf) seat shelf first) where
+    no_later_than : (j : ℕ) → j < slots shelf → (is : Bool) → ready_at seat shelf j ≡ is → (not is || no_later (packet_at shelf first.slot) (packet_at shelf j)) ≡ true
+    no_later_than j h false is = refl
+    no_later_than j h true is = so.least j h is
 
-  module _ (first key : ℕ) (so : FirstReady (slots shelf) seat shelf first key) where
-    found_is_chosen : key < no_key → first ≡ chosen seat shelf
-    unfolding chosen comes_first
-    found_is_chosen some =
-        only_lowest (slots shelf) (comes_first (slots shelf) seat shelf) first (record { most = omega (arith, there); fails_below = fails; holds = λ h. is_first })
-      where
-        there : first < slots shelf
-        there = (so.found some).0
+    is_first : comes_first (slots shelf) seat shelf first.slot ≡ true
+    unfolding comes_first
+    is_first = rw so.is_ready (all_of _ (slots shelf) (λ j h. no_later_than j h (ready_at seat shelf j) refl))
 
-        is_ready : ready_at seat shelf first ≡ true
-        is_ready = (so.found some).1
+    fails_as : (k : ℕ) → k < first.slot → (is : Bool) → ready_at seat shelf k ≡ is → comes_first (slots shelf) seat shelf k ≡ false
+    unfolding comes_first
+    fails_as k h false is = rw is
+    fails_as k h true is = rw is (all_fails _ (slots shelf) first.slot so.there (rw so.is_ready (so.lowest k h is)))
 
-        is_key : key ≡ key_at shelf first
-        is_key = (so.found some).2
-
-        first_count : number_of (packet_at shelf first) < 65536
-        first_count = so.counts first there is_ready
-
-        no_later_lem : (j : ℕ) → j < slots shelf → (is : Bool) → ready_at seat shelf j ≡ is → (not is || no_later (packet_at shelf first) (packet_at shelf j)) ≡ true
-        no_later_lem j h false is = refl
-        no_later_lem j h true is =
-            lower_key_is_no_later (packet_at shelf first) (packet_at shelf j) first_count (so.counts j h is) (omega (arith, is_key, so.least j h is))
-
-        is_first : comes_first (slots shelf) seat shelf first ≡ true
-        is_first = rw is_ready (all_of _ (slots shelf) (λ j h. no_later_lem j h (ready_at seat shelf j) refl))
-
-        later : (k : ℕ) → k < first → ready_at seat shelf k ≡ true → (not (ready_at seat shelf first) || no_later (packet_at shelf k) (packet_at shelf first)) ≡ false
-        later k h is =
-            rw is_ready
-            (higher_key_is_later (packet_at shelf k) (packet_at shelf first) (so.counts k (omega (arith, there)) is) first_count
-            (omega (arith, is_key, so.lowest k (omega (arith, there)) h is)))
-
-        fails_as : (k : ℕ) → k < first → (is : Bool) → ready_at seat shelf k ≡ is → comes_first (slots shelf) seat shelf k ≡ false
-        fails_as k h false is = not_ready_is_not_first (slots shelf) k is
-        fails_as k h true is = rw is (all_fails _ (slots shelf) first there (later k h is))
-
-        fails : (k : ℕ) → k < first → comes_first (slots shelf) seat shelf k ≡ false
-        fails k h = fails_as k h (ready_at seat shelf k) refl
-
-    none_is_chosen : no_key ≤ key → first ≡ chosen seat shelf
+    found_is_chosen : first.slot ≡ chosen seat shelf
     unfolding chosen
-    none_is_chosen nothing =
-        let none = so.none nothing in
-        only_lowest (slots shelf) (comes_first (slots shelf) seat shelf) first
-        (record {
-          most = omega (arith, none.0);
-          fails_below = λ k h. not_ready_is_not_first (slots shelf) k (none.1 k (omega (arith, none.0)));
-          holds = λ h. absurd (omega (arith, none.0));
-        })
+    found_is_chosen =
+        only_lowest (slots shelf) (comes_first (slots shelf) seat shelf) first.slot
+        (record { most = omega (arith, so.there); fails_below = λ k h. fails_as k h (ready_at seat shelf k) refl; holds = λ h. is_first })
 
-    pub first_is_chosen : first ≡ chosen seat shelf
-    first_is_chosen =
-        elim (dec_lt key no_key) [
-          | yes some ↦ found_is_chosen some
-          | no nothing ↦ none_is_chosen (omega arith)
-        ]
+  pub first_is_chosen : (first : Option Ready) → FirstReady (slots shelf) seat shelf first → first_slot first ≡ slot_or_none (slots shelf) (chosen seat shelf)
+  first_is_chosen None none = sym (none_of (slots shelf) (chosen seat shelf) (rw (none_ready_is_none_chosen seat shelf none) (omega arith)))
+  first_is_chosen (Some first) so =
+      rw (← found_is_chosen first so) (sym (some_of (slots shelf) first.slot so.there))
+
+  -- what a look answers for the ready packet that comes first
+  module _ (first : Option Ready) (is : first_slot first ≡ slot_or_none (slots shelf) (chosen seat shelf)) where
+    pub none_is_chosen : ((one : Ready) → first ≡ Some one → ⊥) → chosen seat shelf ≡ slots shelf
+    none_is_chosen none =
+        le_antisymm (chosen_is_at_most_slots seat shelf) (none_is_past (slots shelf) (chosen seat shelf) (first_slot first) is (no_slot first none))
+
+    pub one_is_chosen : (one : Ready) → first ≡ Some one → (one.slot ≡ chosen seat shelf) × (one.slot < slots shelf)
+    one_is_chosen one e = some_is_it (slots shelf) (chosen seat shelf) (first_slot first) is one.slot (ap first_slot e)

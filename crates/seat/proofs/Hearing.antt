@@ -6,6 +6,7 @@ use mathlib.Core.List.{List}
 use lib.ListN.{length}
 use lib.Arith.{lt_of_le-ne}
 use borrow.Author.Tests.{eq-eqb, ne_eqb, ltb-false}
+use Rattle.std.specs.Prelude.{Some}
 use Rattle.answers.specs.Answers.{first_of}
 use Rattle.answers.specs.declared.Edit.{Edit}
 use Rattle.answers.specs.declared.Refusal.TheVariants.{NotSound, NotWellFormed}
@@ -62,7 +63,7 @@ module _ (seat : Seat) (shelf : List ℕ) (stock : Stock) (packet : List ℕ) (h
   -- what the words say is what refusal 17 asks
   repeats_is : handed (window_with seat.run stock.marks heading.sender) (entry past heading.sender) ≡ repeats seat shelf packet
   repeats_is =
-      h.surveyed.marks_are h.sound_stock heading.sender (entry past heading.sender) heard_sizes.sender_low heard_sizes.sender_high
+      h.surveyed.marks_are heading.sender (entry past heading.sender) heard_sizes.sender_low heard_sizes.sender_high
       ∙ rw (h.heading_is, h.past_is)
 
   pub heard_answer : (answer : Answer)
@@ -126,14 +127,13 @@ module _ (seat : Seat) (packet shelf : List ℕ) where
   refused_14 sound bad =
       arrived_refused seat packet shelf _ (sym (goes_on NotSound _ _ _ (ap not sound) ∙ refuses NotWellFormed _ _ _ (ap not (ne_eqb _ _ bad)))) NotWellFormed refl
 
--- a packet that was read beside a sound stock is heard
-pub heard : (seat : Seat) (shelf : List ℕ) (stock : Stock) (packet : List ℕ) (heading : Heading) (past barrier : List ℕ) → LookedOver false seat shelf stock → stock.sound ≡ true
+-- a packet that was read beside a stock is heard
+pub heard : (seat : Seat) (shelf : List ℕ) (stock : Stock) (packet : List ℕ) (heading : Heading) (past barrier : List ℕ) → LookedOver false seat shelf (Some stock)
     → first_bad_point packet ≡ 0 → heading ≡ heading_of packet → past ≡ past_of packet → barrier ≡ barrier_of packet → Heard seat shelf stock packet heading past barrier
-heard seat shelf stock packet heading past barrier looked sound well h p b =
+heard seat shelf stock packet heading past barrier looked well h p b =
     record {
-      sound = sym looked.sound_is ∙ sound;
-      surveyed = looked.surveyed sound;
-      sound_stock = sound;
+      sound = looked.0;
+      surveyed = looked.1;
       is_well_formed = well;
       heading_is = h;
       past_is = p;

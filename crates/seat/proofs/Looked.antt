@@ -1,11 +1,12 @@
 -- One slot more is looked at: what is found where it is free, where it is not sound, and where its packet is counted in.
-use Prim.Native.Nat.{ℕ, ◌+◌, ◌≤◌, ◌<◌}
-use mathlib.Core.Path.{◌≡◌, refl, sym, ap, ap₂, ◌∙◌}
-use mathlib.Core.Bool.{Bool, true, false, cond, not, ◌&&◌, ◌||◌, or-false, or_assoc, true≢false}
+use Prim.Native.Nat.{ℕ, ◌+◌, ◌≤◌}
+use mathlib.Core.Path.{◌≡◌, sym, ap, ap₂, ◌∙◌}
+use mathlib.Core.Bool.{Bool, true, false, not, ◌&&◌, ◌||◌, or-false, or_assoc}
 use mathlib.Core.List.{List}
 use native.Mathlib.Omega.{arith}
-use lib.Dec.{eqb, ltb}
+use lib.Dec.{eqb}
 use lib.ListN.{length}
+use Rattle.std.specs.Prelude.{None}
 use Rattle.answers.specs.declared.SeatNo.{SeatNo}
 use Rattle.vectors.specs.Vectors.{entry}
 use Rattle.window.specs.Window.{handed}
@@ -18,54 +19,39 @@ use Rattle.packet.specs.declared.Reading.{Reading}
 use Rattle.packet.proofs.Told.{Told, told}
 use Rattle.shelf.specs.Shelf.{slots, is_free}
 use Rattle.seat.specs.Stock.{packet_at, number_of, other_session, above_own_count, is_handed, too_far_ahead, passes_as, passes, is_edit, on_slots, sound_slots}
-use Rattle.seat.specs.HandingOver.{ready}
-use Rattle.seat.specs.Survey.{window_with, passes_beside, key_of, key_at, no_key, sooner, Counted, FirstReady, Looked, Surveyed}
+use Rattle.seat.specs.Survey.{window_with, passes_beside, Counted, FirstReady, Looked, Surveyed}
 use Rattle.seat.specs.declared.Seat.{Seat}
 use Rattle.seat.specs.declared.stock.Stock.{Stock}
-use Rattle.seat.proofs.SlotBySlot.{nothing_on_no_slots, free_slot_adds_no_edit, used_slot_adds_its_edit, no_slots_are_sound, free_slot_is_sound, used_slot_is_sound, more_stay_unsound}
+use Rattle.seat.proofs.SlotBySlot.{nothing_on_no_slots, free_slot_adds_no_edit, used_slot_adds_its_edit, no_slots_are_sound, free_slot_is_sound, used_slot_is_sound}
 use Rattle.seat.proofs.Beside.{beside, passed_is_in_window}
 use Rattle.seat.proofs.Marks.{marking_adds_the_edit}
-use Rattle.seat.proofs.FirstReady.{none_ready_on_no_slots, slot_not_ready, used_slot_compared, free_slot_is_not_ready, first_is_chosen}
+use Rattle.seat.proofs.FirstReady.{slot_not_ready, used_slot_counted, free_slot_is_not_ready, first_is_chosen}
 
--- ---- the start, the end, and a slot that is not sound
+-- ---- the start and the end
 
 module _ (choosing : Bool) (seat : Seat) (shelf : List ℕ) where
-  pub looked_at_none : (stock : Stock) → stock.sound ≡ true → stock.marks ≡ seat.ahead → stock.first ≡ slots shelf → stock.key ≡ no_key → Looked choosing 0 seat shelf stock
-  looked_at_none stock sound marks first key =
+  pub looked_at_none : Looked choosing 0 seat shelf (record { marks = seat.ahead; first = None })
+  looked_at_none =
       record {
-        sound_is = sound ∙ sym (no_slots_are_sound 0 shelf seat);
-        marks_are = λ is sender number low high. rw (marks, nothing_on_no_slots 0 shelf sender number) (sym (or-false _));
-        first_is = λ some is. rw (first, key) (none_ready_on_no_slots seat shelf);
+        sound = no_slots_are_sound 0 shelf seat;
+        marks_are = λ sender number low high. rw (nothing_on_no_slots 0 shelf sender number) (sym (or-false _));
+        first_is = λ some k h. absurd (omega arith);
       }
 
   pub looked_at_all : (n : ℕ) (stock : Stock) → Looked choosing n seat shelf stock → n ≡ slots shelf → Surveyed choosing seat shelf stock
   looked_at_all n stock so all =
       let here : Looked choosing (slots shelf) seat shelf stock = rw all at so in
-      record { sound_is = here.sound_is; marks_are = here.marks_are; first_is = λ some is. first_is_chosen seat shelf stock.first stock.key (here.first_is some is) }
-
-  -- once a slot is not sound, no more is claimed
-  pub slot_is_bad : (n : ℕ) (stock : Stock) → stock.sound ≡ false → sound_slots n seat shelf ≡ false → Looked choosing n seat shelf stock
-  slot_is_bad n stock unsound bad =
-      record {
-        sound_is = unsound ∙ sym bad;
-        marks_are = λ is. absurd (true≢false (sym is ∙ unsound));
-        first_is = λ some is. absurd (true≢false (sym is ∙ unsound));
-      }
-
-  pub looked_in_vain : (n : ℕ) (stock : Stock) → Looked choosing n seat shelf stock → n ≤ slots shelf → stock.sound ≡ false → Surveyed choosing seat shelf stock
-  looked_in_vain n stock so low unsound =
-      looked_at_all (slots shelf) stock
-      (slot_is_bad (slots shelf) stock unsound (more_stay_unsound n (slots shelf) seat shelf low (sym so.sound_is ∙ unsound))) refl
+      record { sound = here.sound; marks_are = here.marks_are; first_is = λ some. first_is_chosen seat shelf stock.first (here.first_is some) }
 
   -- ---- one slot more
 
-  module _ (i : ℕ) (stock : Stock) (sound : stock.sound ≡ true) (so : Looked choosing i seat shelf stock) where
+  module _ (i : ℕ) (stock : Stock) (so : Looked choosing i seat shelf stock) where
     pub slot_is_free : is_free shelf i ≡ true → Looked choosing (i + 1) seat shelf stock
     slot_is_free free =
         record {
-          sound_is = so.sound_is ∙ sym (free_slot_is_sound i shelf seat free);
-          marks_are = λ is sender number low high. rw (free_slot_adds_no_edit i shelf sender number free) (so.marks_are is sender number low high);
-          first_is = λ some is. slot_not_ready seat shelf i stock.first stock.key (so.first_is some is) (free_slot_is_not_ready seat shelf i free);
+          sound = free_slot_is_sound i shelf seat free ∙ so.sound;
+          marks_are = λ sender number low high. rw (free_slot_adds_no_edit i shelf sender number free) (so.marks_are sender number low high);
+          first_is = λ some. slot_not_ready seat shelf i stock.first (so.first_is some) (free_slot_is_not_ready seat shelf i free);
         }
 
     module _ (reading : Reading) (is : reading ≡ read_of (packet_at shelf i)) (used : is_free shelf i ≡ false) where
@@ -73,7 +59,7 @@ module _ (choosing : Bool) (seat : Seat) (shelf : List ℕ) where
       sound_so_far : sound_slots (i + 1) seat shelf
           ≡ (passes_as seat reading.past reading.answer && not (on_slots i shelf (sender_of (packet_at shelf i)) (number_of (packet_at shelf i))))
       unfolding passes
-      sound_so_far = rw is (used_slot_is_sound i shelf seat used ∙ rw (sym so.sound_is ∙ sound))
+      sound_so_far = rw is (used_slot_is_sound i shelf seat used ∙ rw so.sound)
 
       pub refused_is_bad : (refusal : Refusal) → reading.answer ≡ Err refusal → sound_slots (i + 1) seat shelf ≡ false
       refused_is_bad refusal refused = sound_so_far ∙ rw refused
@@ -90,7 +76,7 @@ module _ (choosing : Bool) (seat : Seat) (shelf : List ℕ) where
         sound_where_passed =
             let t = facts in
             let number = entry reading.past heading.sender in
-            let marks = so.marks_are sound heading.sender number t.sender_low (omega arith) in
+            let marks = so.marks_are heading.sender number t.sender_low (omega arith) in
             let before : on_slots i shelf (sender_of packet) (number_of packet) ≡ on_slots i shelf heading.sender number =
             ap₂ (λ (sender : SeatNo) (past : List ℕ). on_slots i shelf sender (entry past sender)) (sym t.sender) (sym t.past) in
             sound_so_far
@@ -102,7 +88,7 @@ module _ (choosing : Bool) (seat : Seat) (shelf : List ℕ) where
 
         module _ (passed : passes_beside seat stock.marks heading reading.past ≡ true) (next : Stock)
             (counted : Counted choosing seat stock i heading.sender reading.past reading.barrier next)
-            (long : length stock.marks ≡ 16) (count : entry reading.past heading.sender < 65536) where
+            (long : length stock.marks ≡ 16) where
           marks_more : (sender : SeatNo) (number : ℕ) → 1 ≤ sender.0 → sender.0 ≤ 16
               → handed (window_with seat.run next.marks sender) number ≡ (is_handed seat sender number || on_slots (i + 1) shelf sender number)
           unfolding is_edit
@@ -114,22 +100,17 @@ module _ (choosing : Bool) (seat : Seat) (shelf : List ℕ) where
               ap (λ (words : List ℕ). handed (window_with seat.run words sender) number) counted.marks_are
               ∙ marking_adds_the_edit seat stock.marks heading.sender own long t.sender_low (omega arith)
               (passed_is_in_window seat stock.marks heading reading.past passed).0 sender number low
-              ∙ ap₂ ◌||◌ (so.marks_are sound sender number low high) edit
+              ∙ ap₂ ◌||◌ (so.marks_are sender number low high) edit
               ∙ or_assoc (is_handed seat sender number) (on_slots i shelf sender number) (is_edit packet sender number)
               ∙ ap (λ (b : Bool). is_handed seat sender number || b) (sym (used_slot_adds_its_edit i shelf sender number used))
 
-          first_more : choosing ≡ true → FirstReady (i + 1) seat shelf next.first next.key
+          first_more : choosing ≡ true → FirstReady (i + 1) seat shelf next.first
           first_more some =
               let t = facts in
               let own = entry reading.past heading.sender in
               let number : own ≡ number_of packet = ap₂ (λ (from : SeatNo) (past : List ℕ). entry past from) t.sender t.past in
-              let key : key_of heading.sender own ≡ key_at shelf i = ap₂ (λ (from : SeatNo) (past : List ℕ). key_of from (entry past from)) t.sender t.past in
-              let is-sooner = ap₂ (λ (barrier : List ℕ) (k : ℕ). ready seat barrier && ltb k stock.key) t.barrier key in
-              let compared =
-              used_slot_compared seat shelf i stock.first stock.key (so.first_is some sound) (omega arith) (omega arith) used
-              (sooner seat stock heading.sender reading.past reading.barrier) is-sooner in
-              rw (counted.first_is some, counted.key_is some ∙ ap (λ (k : ℕ). cond (sooner seat stock heading.sender reading.past reading.barrier) k stock.key) key) compared
+              rw (counted.first_is some, t.barrier)
+              (used_slot_counted seat shelf i heading.sender own (ap (λ (from : SeatNo). from.0) t.sender) number stock.first (so.first_is some) used)
 
           pub packet_is_counted : Looked choosing (i + 1) seat shelf next
-          packet_is_counted =
-              record { sound_is = counted.stays_sound ∙ sym (sound_where_passed ∙ passed); marks_are = λ is. marks_more; first_is = λ some is. first_more some }
+          packet_is_counted = record { sound = sound_where_passed ∙ passed; marks_are = marks_more; first_is = first_more }

@@ -1,6 +1,6 @@
 -- A sound shelf: the test says the plain facts, and the other way round.
 use Prim.Native.Nat.{ℕ, ◌+◌, ◌<◌}
-use mathlib.Core.Path.{◌≡◌, refl, sym, ap, ap₂, ◌∙◌}
+use mathlib.Core.Path.{◌≡◌, refl, sym, ap, ◌∙◌}
 use mathlib.Core.Bool.{Bool, true, false, not, ◌&&◌, ◌||◌, true≢false, not-not}
 use mathlib.Core.List.{List}
 use native.Mathlib.Decide.{ℕ_discrete, dec_lt}
@@ -18,9 +18,7 @@ use Rattle.shelf.specs.Shelf.{slots, whole_slots, slot_at, is_free}
 use Rattle.shelf.proofs.Slots.{length_slot_at}
 use Rattle.seat.specs.State.{own_count}
 use Rattle.seat.specs.Stock.{packet_at, number_of, other_session, above_own_count, is_handed, too_far_ahead, passes_as, passes, sound_slot, on_slots, distinct, sound_slots, sound_shelf, Passing, SoundShelf}
-use Rattle.seat.specs.Survey.{Surveyed}
 use Rattle.seat.specs.declared.Seat.{Seat}
-use Rattle.seat.specs.declared.stock.Stock.{Stock}
 use Rattle.seat.proofs.InSlot.{well_formed_fits, found_packet_stands}
 use Rattle.seat.proofs.SlotBySlot.{false_unless, is_new}
 use Rattle.seat.proofs.OnSlots.{edit_is_its_numbers, its_numbers_are_the_edit, on_slots_is_on_one, on_none_is_not_on_slots}
@@ -136,8 +134,3 @@ module _ (seat : Seat) (shelf : List ℕ) where
           | no not_after ↦ omega arith
         ]
       ]
-
-  -- what a look finds of soundness, beside the test of whole slots
-  pub look_tells_sound : (choosing : Bool) (stock : Stock) (whole : Bool) → Surveyed choosing seat shelf stock → whole ≡ whole_slots shelf → (whole && stock.sound) ≡ sound_shelf seat shelf
-  unfolding sound_shelf
-  look_tells_sound choosing stock whole surveyed is_whole = ap₂ ◌&&◌ is_whole surveyed.sound_is

@@ -1,5 +1,5 @@
 -- What the steps' private functions know when they are called.
-use Rattle.std.specs.Prelude.{ℕ, ◌<◌, ◌≡◌, Bool, true, false, List, Result, Ok, Err, ⊤}
+use Rattle.std.specs.Prelude.{ℕ, ◌<◌, ◌≡◌, Bool, true, false, List, Option, Some, None, Result, Ok, Err, ⊤}
 use Rattle.answers.specs.declared.Edit.{Edit}
 use Rattle.answers.specs.declared.Refusal.{Refusal}
 use Rattle.answers.specs.declared.Answer.{Answer}
@@ -16,16 +16,15 @@ use Rattle.seat.specs.declared.arrival.Place.{Place}
 use Rattle.seat.specs.declared.arrival.Place.TheVariants.{Seat as ToSeat, Slot}
 use Rattle.seat.specs.declared.stock.Stock.{Stock}
 
--- A look over state and shelf tells whether both are sound, and what a sound shelf holds.
-pub record LookedOver (choosing : Bool) (seat : Seat) (shelf : List ℕ) (stock : Stock) : Type 0 where
-  pub sound_is : stock.sound ≡ sound_both seat shelf
-  pub surveyed : stock.sound ≡ true → Surveyed choosing seat shelf stock
+-- A look over state and shelf: none where one of them is not sound, and else what the shelf holds.
+abbrev pub LookedOver : Bool → Seat → List ℕ → Option Stock → Type 0
+LookedOver choosing seat shelf None = sound_both seat shelf ≡ false
+LookedOver choosing seat shelf (Some stock) = (sound_both seat shelf ≡ true) × Surveyed choosing seat shelf stock
 
 -- State and shelf are sound, the shelf was surveyed, and the packet was read as well formed.
 pub record Heard (seat : Seat) (shelf : List ℕ) (stock : Stock) (packet : List ℕ) (heading : Heading) (past barrier : List ℕ) : Type 0 where
   pub sound : sound_both seat shelf ≡ true
   pub surveyed : Surveyed false seat shelf stock
-  pub sound_stock : stock.sound ≡ true
   pub is_well_formed : first_bad_point packet ≡ 0
   pub heading_is : heading ≡ heading_of packet
   pub past_is : past ≡ past_of packet

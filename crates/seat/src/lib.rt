@@ -18,7 +18,6 @@ use answers::{Answer, Edit, EditNo, Refusal, SeatNo};
 use arrival::settle;
 use packet::{BODY_MOST, HEAD_LEN, Header, Kind};
 use sending::{after_sending, message_sent, own_count, past_sent};
-use shelf::SLOT_SIZE;
 pub use state::is_sound;
 use stock::look_over;
 use taking::take;
@@ -137,10 +136,9 @@ impl Seat {
     pub fn arrive(self, packet: &[u8], shelf: &mut [u8]) -> Stepped
         ensures { Arrived self packet.now shelf.old result shelf.new }
     {
-        let stock = look_over(false, self, &*shelf);
-        if !stock.sound {
+        let Some(stock) = look_over(false, self, &*shelf) else {
             return refuse(self, Refusal::NotSound);
-        }
+        };
         match packet::read_message(packet) {
             Ok(message) => settle(self, stock, message, packet, shelf),
             Err(point) => refuse(self, point.into()),
@@ -151,17 +149,15 @@ impl Seat {
     pub fn release(self, shelf: &mut [u8], out: &mut [u8]) -> Stepped
         ensures { Released self shelf.old out.old result shelf.new out.new }
     {
-        let stock = look_over(true, self, &*shelf);
-        if !stock.sound {
+        let Some(stock) = look_over(true, self, &*shelf) else {
             return refuse(self, Refusal::NotSound);
-        }
-        let first = stock.first;
-        if first == shelf.len() / SLOT_SIZE {
+        };
+        let Some(first) = stock.first else {
             return Stepped {
                 seat: self,
                 answer: Answer::NothingReady,
             };
-        }
-        take(self, first, shelf, out)
+        };
+        take(self, first.slot, shelf, out)
     }
 }

@@ -20,14 +20,11 @@ pub fn header_of(seat: Seat) -> Header
 fn has_sound_windows(seat: Seat) -> bool
     ensures { result ≡ sound_windows seat }
 {
-    let mut ok = true;
-    for k in 0..16 {
+    (0..16).all(|k| {
         let run = seat.run[k];
         let ahead = seat.ahead[k];
-        let past = seat.past[k];
-        ok = ok & Window { run, ahead }.is_sound(past);
-    }
-    ok
+        Window { run, ahead }.is_sound(seat.past[k])
+    })
 }
 
 // Whether the state is sound. That barrier, run and ahead are 0 above n follows from past being 0 there.

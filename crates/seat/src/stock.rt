@@ -1,10 +1,10 @@
 // The packets on a shelf, as a seat sees them.
-ghost use Rattle.std.specs.Prelude.{◌≡◌, true, false, ◌+◌, ◌≤◌, ◌<◌, length};
+ghost use Rattle.std.specs.Prelude.{◌≡◌, false, ◌+◌, ◌≤◌, ◌<◌, length, drop, MatchBool, MatchOption};
 ghost use Rattle.vectors.specs.Vectors.{entry};
 ghost use Rattle.packet.specs.Packet.{first_bad_point};
-ghost use Rattle.shelf.specs.Shelf.{slot_size};
-ghost use Rattle.seat.specs.Stock.{packet_in, above_own_count, too_far_ahead};
-ghost use Rattle.seat.specs.Survey.{window_with, marked_with, passes_beside, key_of, stock_of, Counted, Looked, Looking, Surveyed};
+ghost use Rattle.shelf.specs.Shelf.{slot_size, slots};
+ghost use Rattle.seat.specs.Stock.{named_length, packet_in, above_own_count, too_far_ahead, sound_slots};
+ghost use Rattle.seat.specs.Survey.{window_with, marked_with, passes_beside, is_sooner, Counted, Looked, Looking, Surveyed};
 ghost use Rattle.seat.specs.Steps.{LookedOver};
 
 use super::Seat;
@@ -15,26 +15,30 @@ use packet::{HEAD_LEN, Heading};
 use shelf::SLOT_SIZE;
 use window::Window;
 
-// Above the key of every packet.
-const NO_KEY: u32 = 4294967295;
-
-// What one look over the slots finds: whether they are sound; the numbers that are handed over or on the shelf, a word
-// for each sender, laid out as ahead is; where a packet is to be chosen, the slot of the ready one that comes first, and
-// that packet's key.
+// A ready packet on the shelf: its slot, and by what it comes first.
 #[derive(Clone, Copy)]
-pub struct Stock {
-    pub sound: bool,
-    pub marks: [u64; 16],
-    pub first: usize,
-    pub key: u32,
+pub struct Ready {
+    pub slot: usize,
+    pub sender: SeatNo,
+    pub number: EditNo,
 }
 
-// The same but for the words, which are gathered beside it.
+// What one look over a sound shelf finds: the numbers that are handed over or on the shelf, a word for each sender, laid
+// out as ahead is; and where a packet is to be chosen, the ready one that comes first.
 #[derive(Clone, Copy)]
-pub struct Seen {
-    pub sound: bool,
-    pub first: usize,
-    pub key: u32,
+pub struct Stock {
+    pub marks: [u64; 16],
+    pub first: Option<Ready>,
+}
+
+// Where the packet on a slot ends, as its own fields say. The callers hand over a whole slot.
+fn end_in(slot: &[u8]) -> usize
+    requires { length slot.now ≡ slot_size }
+    ensures { result ≡ 1 + named_length (drop 1 slot.now) }
+{
+    let seats = (slot[1] % 16) as usize + 1;
+    let body = slot[3] as usize;
+    1 + HEAD_LEN + 4 * seats + body
 }
 
 // The part of a slot that holds its packet; empty where the slot holds none. The callers hand over a whole slot.
@@ -42,9 +46,7 @@ pub fn packet_in(slot: &[u8]) -> &[u8]
     requires { length slot.now ≡ slot_size }
     ensures { result.now ≡ packet_in slot.now }
 {
-    let seats = (slot[1] % 16) as usize + 1;
-    let body = slot[3] as usize;
-    let end = 1 + HEAD_LEN + 4 * seats + body;
+    let end = end_in(slot);
     if slot[0] != 1 {
         return &slot[..0];
     }
@@ -59,12 +61,11 @@ pub fn packet_in(slot: &[u8]) -> &[u8]
 
 // The same of a slot whose packet was found well formed: its own fields say where it ends.
 pub fn held_in(slot: &[u8]) -> &[u8]
-    requires { (length slot.now ≡ slot_size) × (first_bad_point (packet_in slot.now) ≡ 0) }
+    requires whole { length slot.now ≡ slot_size }
+    requires well_formed { first_bad_point (packet_in slot.now) ≡ 0 }
     ensures { result.now ≡ packet_in slot.now }
 {
-    let seats = (slot[1] % 16) as usize + 1;
-    let body = slot[3] as usize;
-    let end = 1 + HEAD_LEN + 4 * seats + body;
+    let end = end_in(slot);
     &slot[1..end]
 }
 
@@ -146,149 +147,115 @@ fn mark_in(run: &[u16; 16], marks: &mut [u64; 16], sender: SeatNo, number: EditN
     marks[at] = window.ahead;
 }
 
-// One number for a sender and a number, lowest for the packet that comes first: by sender, then by number.
-fn key_of(sender: SeatNo, number: EditNo) -> u32
-    ensures { result ≡ key_of sender number.0 }
-{
-    sender.0 as u32 * 65536 + number.0 as u32
+impl Ready {
+    // Whether this packet is released sooner: by sender, then by number.
+    fn is_sooner(self, other: Ready) -> bool
+        ensures { result ≡ is_sooner self other }
+    {
+        (self.sender, self.number) < (other.sender, other.number)
+    }
 }
 
 // The packet on slot i is counted in: its number is marked. Where a packet is to be chosen, it is the first so far where
-// it is ready and its key is lower. The caller has found its number to be in the sender's window, and run is the seat's.
+// it is ready and sooner. The caller has found its number to be in the sender's window, and run is the seat's.
 fn count_in(
     choosing: bool,
     seat: Seat,
     run: &[u16; 16],
-    marks: &mut [u64; 16],
-    seen: Seen,
+    stock: &mut Stock,
     i: usize,
     sender: SeatNo,
     past: &[u16; 16],
     barrier: [u16; 16],
-) -> Seen
-    requires { (1 ≤ sender.0) × (sender.0 ≤ 16) × (entry seat.run sender < entry past.now sender) × (entry past.now sender ≤ entry seat.run sender + 64) × (run.now ≡ seat.run) }
-    ensures { Counted choosing seat (stock_of seen marks.old) i sender past.now barrier (stock_of result marks.new) }
+)
+    requires sender_low { 1 ≤ sender.0 }
+    requires sender_high { sender.0 ≤ 16 }
+    requires new { entry seat.run sender < entry past.now sender }
+    requires near { entry past.now sender ≤ entry seat.run sender + 64 }
+    requires run_is { run.now ≡ seat.run }
+    ensures { Counted choosing seat stock.old i sender past.now barrier stock.new }
 {
     let at = (sender.0 - 1) as usize;
     let number = EditNo(past[at]);
-    mark_in(run, marks, sender, number);
-    if !choosing {
-        return Seen {
-            sound: true,
-            first: seen.first,
-            key: seen.key,
+    mark_in(run, &mut stock.marks, sender, number);
+    if choosing && is_ready(seat, barrier) {
+        let next = Ready {
+            slot: i,
+            sender,
+            number,
         };
-    }
-    let key = key_of(sender, number);
-    if is_ready(seat, barrier) & (key < seen.key) {
-        return Seen {
-            sound: true,
-            first: i,
-            key,
-        };
-    }
-    Seen {
-        sound: true,
-        first: seen.first,
-        key: seen.key,
+        if stock.first.is_none_or(|first| next.is_sooner(first)) {
+            stock.first = Some(next);
+        }
     }
 }
 
-fn unsound(seen: Seen) -> Seen
-    ensures { result.sound ≡ false }
-{
-    let mut bad = seen;
-    bad.sound = false;
-    bad
-}
-
-// Slot i is looked at. The caller has found the slot to be there and in use, and those before it to be sound.
+// Whether slot i is sound, and if so it is counted in. The caller has found the slot to be there and in use, and those
+// before it to be sound.
 fn look(
     choosing: bool,
     seat: Seat,
     run: &[u16; 16],
     shelf: &[u8],
     i: usize,
-    marks: &mut [u64; 16],
-    seen: Seen,
-) -> Seen
-    requires { Looking choosing i seat run.now shelf.now seen marks.old }
-    ensures { (length marks.new ≡ 16) × Looked choosing (i + 1) seat shelf.now (stock_of result marks.new) }
+    stock: &mut Stock,
+) -> bool
+    requires { Looking choosing i seat run.now shelf.now stock.old }
+    ensures long { length stock.new.marks ≡ 16 }
+    ensures looked { MatchBool result (Looked choosing (i + 1) seat shelf.now stock.new) (sound_slots (i + 1) seat shelf.now ≡ false) }
 {
     let slot = shelf::slot(shelf, i);
     match packet::read_message(packet_in(slot)) {
-        Err(_) => unsound(seen),
+        Err(_) => false,
         Ok(message) => {
-            if !passes_beside(seat, run, &*marks, message.heading, &message.past) {
-                return unsound(seen);
+            if !passes_beside(seat, run, &stock.marks, message.heading, &message.past) {
+                return false;
             }
             count_in(
                 choosing,
                 seat,
                 run,
-                marks,
-                seen,
+                stock,
                 i,
                 message.heading.sender,
                 &message.past,
                 message.barrier,
-            )
+            );
+            true
         }
     }
 }
 
-fn stock_of(seen: Seen, marks: [u64; 16]) -> Stock
-    ensures { result ≡ stock_of seen marks }
-{
-    Stock {
-        sound: seen.sound,
-        marks,
-        first: seen.first,
-        key: seen.key,
-    }
-}
-
-// One look over the shelf, for the ready packet that comes first too where one is to be chosen. The caller has found the
-// own number to be in range.
-pub fn survey(choosing: bool, seat: Seat, shelf: &[u8]) -> Stock
-    requires { (1 ≤ seat.own.0) × (seat.own.0 ≤ 16) }
-    ensures { Surveyed choosing seat shelf.now result }
+// One look over the shelf, for the ready packet that comes first too where one is to be chosen: none where a slot is not
+// sound. The caller has found the own number to be in range.
+pub fn survey(choosing: bool, seat: Seat, shelf: &[u8]) -> Option<Stock>
+    requires own_low { 1 ≤ seat.own.0 }
+    requires own_high { seat.own.0 ≤ 16 }
+    ensures { MatchOption result (sound_slots (slots shelf.now) seat shelf.now ≡ false) (λ stock. Surveyed choosing seat shelf.now stock) }
 {
     let n = shelf.len() / SLOT_SIZE;
     let run = seat.run;
-    let mut marks = seat.ahead;
-    let mut seen = Seen {
-        sound: true,
-        first: n,
-        key: NO_KEY,
-    };
+    let marks = seat.ahead;
+    let mut stock = Stock { marks, first: None };
     for i in 0..n {
-        if !shelf::is_free(shelf::slot(shelf, i)) {
-            seen = look(choosing, seat, &run, shelf, i, &mut marks, seen);
-            if !seen.sound {
-                return stock_of(seen, marks);
-            }
+        if !shelf::is_free(shelf::slot(shelf, i))
+            && !look(choosing, seat, &run, shelf, i, &mut stock)
+        {
+            return None;
         }
     }
-    stock_of(seen, marks)
+    Some(stock)
 }
 
-// One look over state and shelf: not sound where the state or the shelf's length is not.
-pub fn look_over(choosing: bool, seat: Seat, shelf: &[u8]) -> Stock
+// One look over state and shelf: none where one of them is not sound.
+pub fn look_over(choosing: bool, seat: Seat, shelf: &[u8]) -> Option<Stock>
     ensures { LookedOver choosing seat shelf.now result }
 {
-    let marks = seat.ahead;
-    let none = Stock {
-        sound: false,
-        marks,
-        first: 0,
-        key: NO_KEY,
-    };
     if !is_sound(seat) {
-        return none;
+        return None;
     }
     if !shelf::has_whole_slots(shelf) {
-        return none;
+        return None;
     }
     survey(choosing, seat, shelf)
 }

@@ -76,6 +76,9 @@ same_index : (i at : ℕ) (below : Bool) → cond below (Some i) None ≡ Some a
 same_index i at true e = cc
 same_index i at false e = let no : false ≡ true = ap is_some e in absurd (true≢false (sym no))
 
+pub none_of : (n i : ℕ) → n ≤ i → slot_or_none n i ≡ None
+none_of n i h = rw (le-ltb i n h)
+
 pub some_of : (n i : ℕ) → i < n → slot_or_none n i ≡ Some i
 some_of n i h = rw (lt-ltb i n h)
 

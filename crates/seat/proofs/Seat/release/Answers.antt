@@ -1,27 +1,19 @@
 -- `Seat::release` meets its contract.
-use Rattle.std.proofs.Common.{refl, sym, ◌∙◌}
-use borrow.Author.Tests.{not-true, not-false}
-use lib.Arith.{lt_of_le-ne}
-use Rattle.seat.proofs.Chosen.{chosen_is_at_most_slots}
+use Rattle.std.proofs.Common.{refl}
+use Rattle.seat.proofs.LookedOver.{none_found}
 use Rattle.seat.proofs.ReleaseAnswers.{not_sound_answers_10, none_ready_answers_2, refused_release, idle_release}
+use Rattle.seat.proofs.FirstReady.{none_is_chosen, one_is_chosen}
 use Rattle.seat.proofs.Seat.release.Goals as goal
 
-pub returns-then-not-stock : goal.returns-then-not-stock
-returns-then-not-stock c = rw c.refuse.ensures (refused_release _ _ _ _ (not_sound_answers_10 _ _ _ (sym c.look_over-stock.ensures.sound_is ∙ not-true _ c.if-not-stock.true)))
+pub returns-in_default : goal.returns-in_default
+returns-in_default c = rw c.refuse.ensures (refused_release _ _ _ _ (not_sound_answers_10 _ _ _ (none_found _ _ _ _ c.look_over.ensures c.in_default.not-Some)))
 
-pub returns-then-first-shelf : goal.returns-then-first-shelf
-returns-then-first-shelf c =
-    let look = c.look_over-stock.ensures in
-    let sound = not-false _ c.if-not-stock.false in
-    idle_release _ _ _ (none_ready_answers_2 _ _ _ (sym look.sound_is ∙ sound) (sym ((look.surveyed sound).first_is refl sound) ∙ c.if-first-shelf.true))
+pub returns-in_default-first : goal.returns-in_default-first
+returns-in_default-first c =
+    idle_release _ _ _
+    (none_ready_answers_2 _ _ _ c.in-Some.ensures.0 (none_is_chosen _ _ _ (c.in-Some.ensures.1.first_is refl) c.in_default-first.not-Some))
 
 pub take-requires : goal.take-requires
 take-requires c =
-    let look = c.look_over-stock.ensures in
-    let sound = not-false _ c.if-not-stock.false in
-    let first_is = (look.surveyed sound).first_is refl sound in
-    record {
-      sound = sym look.sound_is ∙ sound;
-      there = lt_of_le-ne (rw first_is (chosen_is_at_most_slots _ _)) c.if-first-shelf.false;
-      chosen_is = first_is;
-    }
+    let is = one_is_chosen _ _ _ (c.in-Some.ensures.1.first_is refl) _ c.in-Some-first.is in
+    record { sound = c.in-Some.ensures.0; there = is.1; chosen_is = is.0 }

@@ -1,19 +1,21 @@
 -- `look_over` meets its contract.
-use Rattle.std.proofs.Common.{refl, sym, ◌∙◌, arith}
+use Rattle.std.proofs.Common.{sym, ◌∙◌, arith}
 use Rattle.seat.proofs.Sound.{sound_says}
 use Rattle.seat.proofs.LookedOver.{unsound_state, broken_slots, surveyed_shelf}
 use Rattle.seat.proofs.stock.look_over.Goals as goal
 
 pub returns-then-not-is_sound : goal.returns-then-not-is_sound
-returns-then-not-is_sound c = unsound_state _ _ _ _ refl (sym c.is_sound.ensures ∙ c.if-not-is_sound.true)
+returns-then-not-is_sound c = unsound_state c.args.choosing _ _ (sym c.is_sound.ensures ∙ c.if-not-is_sound.true)
 
 pub returns-then-not-has_whole_slots : goal.returns-then-not-has_whole_slots
 returns-then-not-has_whole_slots c =
-    broken_slots _ _ _ _ refl (sym c.is_sound.ensures ∙ c.if-not-is_sound.false) (sym c.has_whole_slots.ensures ∙ c.if-not-has_whole_slots.true)
+    broken_slots c.args.choosing _ _ (sym c.is_sound.ensures ∙ c.if-not-is_sound.false) (sym c.has_whole_slots.ensures ∙ c.if-not-has_whole_slots.true)
 
 pub survey-requires : goal.survey-requires
-survey-requires c = let sound = sound_says _ (sym c.is_sound.ensures ∙ c.if-not-is_sound.false) in (sound.own_low, omega arith)
+survey-requires c =
+    let sound = sound_says _ (sym c.is_sound.ensures ∙ c.if-not-is_sound.false) in
+    record { own_low = sound.own_low; own_high = omega arith }
 
 pub returns : goal.returns
 returns c =
-    surveyed_shelf _ _ _ _ (sym c.is_sound.ensures ∙ c.if-not-is_sound.false) (sym c.has_whole_slots.ensures ∙ c.if-not-has_whole_slots.false) c.survey.ensures
+    surveyed_shelf _ _ _ (sym c.is_sound.ensures ∙ c.if-not-is_sound.false) (sym c.has_whole_slots.ensures ∙ c.if-not-has_whole_slots.false) _ c.survey.ensures

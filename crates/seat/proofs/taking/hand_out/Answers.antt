@@ -15,7 +15,7 @@ use Rattle.seat.proofs.taking.hand_out.Goals as goal
 
 pub held_in-packet-requires : goal.held_in-packet-requires
 held_in-packet-requires c =
-    (ap length c.slot.ensures ∙ length_slot_at _ _ c.requires.chosen.there, rw c.slot.ensures c.requires.is_well_formed)
+    record { whole = ap length c.slot.ensures ∙ length_slot_at _ _ c.requires.chosen.there; well_formed = rw c.slot.ensures c.requires.is_well_formed }
 
 pub edit_in-edit-requires-clause-body : goal.edit_in-edit-requires-clause-body
 edit_in-edit-requires-clause-body c =

@@ -14,7 +14,7 @@ use Rattle.seat.proofs.taking.take.Goals as goal
 
 pub held_in-requires : goal.held_in-requires
 held_in-requires c =
-    (ap length c.slot.ensures ∙ length_slot_at _ _ c.requires.there, rw c.slot.ensures (chosen_passes _ _ _ c.requires).is_well_formed)
+    record { whole = ap length c.slot.ensures ∙ length_slot_at _ _ c.requires.there; well_formed = rw c.slot.ensures (chosen_passes _ _ _ c.requires).is_well_formed }
 
 -- the packet that was read is the one on slot i
 on_slot : (c : After-read_message) → c.held_in.result.now ≡ packet_at c.args.shelf.now c.args.i
