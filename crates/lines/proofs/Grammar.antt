@@ -8,6 +8,7 @@ use lib.Dec.{eqb}
 use lib.ListN.{length, get_or}
 use borrow.Author.Tests.{eqb-true}
 use Rattle.std.specs.Prelude.{Option, Some, None, option_map, option_and_then}
+use Rattle.std.proofs.lemmas.Bool.{false_from_ne_true}
 use Rattle.vectors.proofs.Every.{and_both}
 use Rattle.lines.specs.Lines.{space, with_first, words, is_number, number_in, number_of, is_letter, letter_of, read_send, read_arrival, read_release, read_words, read_step, read_numbers, read_opening}
 use Rattle.lines.specs.declared.Opening.{Opening}
@@ -45,18 +46,13 @@ worded (byte ∷ rest) = by_space (eqb byte space) refl (worded rest)
     by_space false e (one w) = one (rw (e, w))
     by_space false e (more k h at first next others w) = more (suc k) (omega arith) at (byte ∷ first) next others (rw (e, w))
 
--- what is not true is false
-isnt : (test : Bool) → (test ≡ true → ⊥) → test ≡ false
-isnt true never = absurd (never refl)
-isnt false never = refl
-
 -- a word with a space is no number and no letter
 spaced_number : (word : List ℕ) (k : ℕ) → k < length word → get_or word k 0 ≡ space → is_number word ≡ false
-spaced_number word k h at = isnt (is_number word) (λ e. absurd (omega (arith, (number_says word e).digits_low k h)))
+spaced_number word k h at = false_from_ne_true (is_number word) (λ e. absurd (omega (arith, (number_says word e).digits_low k h)))
 
 spaced_letter : (letter : ℕ) → space < letter → (word : List ℕ) (k : ℕ) → k < length word → get_or word k 0 ≡ space → is_letter letter word ≡ false
 spaced_letter letter low word k h at =
-    isnt (is_letter letter word)
+    false_from_ne_true (is_letter letter word)
     (λ e.
     let both = and_both (eqb (length word) 1) (eqb (get_or word 0 0) letter) e in
     let first : k ≡ 0 = omega (arith, eqb-true _ _ both.0) in

@@ -9,7 +9,7 @@ use native.Mathlib.Omega.{arith}
 use lib.Dec.{eqb, ltb}
 use lib.ListN.{length, get_or, take, drop, length-drop}
 use lib.Seq.{take_all}
-use borrow.Author.Tests.{eq-eqb, eqb-true, ltb-true, ltb-false}
+use borrow.Author.Tests.{eq-eqb, eqb-true, not-false, ltb-true, ltb-false}
 use Rattle.std.specs.Prelude.{Option, Some, None, MatchOption}
 use Rattle.std.specs.List.{position, position_or_len}
 use Rattle.std.proofs.lemmas.List.Sums.{prefix_len-le-length, prefix_len_passes, prefix_len_stops}
@@ -23,10 +23,6 @@ pub record FirstAt (byte : ℕ) (text : List ℕ) (place : ℕ) : Type 0 where
 never : ◌≡◌ {A = Bool} false true → ⊥
 never e = let z : ◌≡◌ {A = ℕ} 0 1 = cc in omega arith
 
-not_false : (b : Bool) → not b ≡ false → b ≡ true
-not_false true e = refl
-not_false false e = sym e
-
 module _ (byte : ℕ) (text : List ℕ) where
   abbrev first : ℕ
   first = position_or_len (λ b. eqb b byte) text
@@ -36,7 +32,7 @@ module _ (byte : ℕ) (text : List ℕ) where
       record {
         inside = prefix_len-le-length (λ b. not (eqb b byte)) text;
         not_before = λ k h e. never (sym (ap not (eq-eqb _ _ e)) ∙ prefix_len_passes (λ b. not (eqb b byte)) text k 0 h);
-        there = λ h. eqb-true _ _ (not_false _ (prefix_len_stops (λ b. not (eqb b byte)) text 0 h));
+        there = λ h. eqb-true _ _ (not-false _ (prefix_len_stops (λ b. not (eqb b byte)) text 0 h));
       }
 
   -- what a search for the byte says

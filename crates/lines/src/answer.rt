@@ -2,14 +2,15 @@
 ghost use Rattle.std.specs.Prelude.{◌+◌, ◌≤◌, length};
 ghost use Rattle.lines.specs.AnswerLine.{decimal, spaced, answer_line, answer_most, Wrote};
 
-// Std's `write!` into lent bytes says nothing of what they hold then, so the digits are written here.
+// Written by hand: `write!` says nothing of lent bytes, and a struct that holds them owes a clause more in each method.
 
 // The number goes to place `at` and on. The place after it comes back. The callers have found room.
 fn put_number(out: &mut [u8], at: usize, number: u64) -> usize
     requires { at + length (decimal number) ≤ length out.old }
     ensures { Wrote out.old at (decimal number) result out.new }
 {
-    if number < 10 {
+    let one_digit = number < 10;
+    if one_digit {
         out[at] = b'0' + number as u8;
         return at + 1;
     }

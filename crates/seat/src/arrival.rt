@@ -9,7 +9,6 @@ ghost use Rattle.seat.specs.Arriving.{admission_refusals, admitted_answer, Arriv
 ghost use Rattle.seat.specs.Survey.{window_with};
 ghost use Rattle.seat.specs.Steps.{Heard, answer_of, GoesToLowest};
 
-use super::state::{hand_over, is_barrier_above_past, is_ready};
 use super::stock::{Stock, is_above_own_count, is_too_far_ahead, window_with};
 use super::{Seat, Stepped, refuse};
 use answers::{Answer, Edit, Refusal};
@@ -41,8 +40,8 @@ fn place_of(seat: Seat, message: Message, shelf: &[u8]) -> Result<Place, Refusal
     ensures answer { (edit : Edit) → answer_of edit result ≡ admitted_answer seat shelf.now message.heading message.past message.barrier edit }
     ensures slot { IfOk result (GoesToLowest shelf.now) }
 {
-    if is_ready(seat, message.barrier) {
-        if is_barrier_above_past(seat, message) {
+    if seat.is_ready(message.barrier) {
+        if seat.is_barrier_above_past(message) {
             return Err(Refusal::BarrierAbovePast);
         }
         return Ok(Place::Seat);
@@ -90,7 +89,7 @@ pub fn settle(
     let marks = stock.marks;
     match judge(seat, marks, message, &*shelf) {
         Ok(Place::Seat) => Stepped {
-            seat: hand_over(seat, message),
+            seat: seat.hand_over(message),
             answer: Answer::Done(edit_in(message, packet.len())),
         },
         Ok(Place::Slot(free)) => {

@@ -8,7 +8,7 @@ mod stock;
 mod taking;
 
 ghost use Rattle.std.specs.Prelude.{◌≡◌};
-ghost use Rattle.seat.specs.State.{counting, no_seat};
+ghost use Rattle.seat.specs.State.{counting};
 ghost use Rattle.seat.specs.Opening.{OpenedAs};
 ghost use Rattle.seat.specs.Arriving.{Arrived};
 ghost use Rattle.seat.specs.Releasing.{Released};
@@ -17,8 +17,6 @@ ghost use Rattle.seat.specs.Sending.{Sent};
 use answers::{Answer, Edit, EditNo, Refusal, SeatNo};
 use arrival::settle;
 use packet::{BODY_MOST, HEAD_LEN, Header, Kind};
-use sending::{after_sending, message_sent, own_count, past_sent};
-pub use state::is_sound;
 use stock::look_over;
 use taking::take;
 
@@ -35,6 +33,16 @@ pub struct Seat {
     pub run: [u16; 16],
     pub ahead: [u64; 16],
 }
+
+// A state of zeros only, which is not sound.
+pub const NO_SEAT: Seat = Seat {
+    n: 0,
+    own: SeatNo(0),
+    past: [0; 16],
+    barrier: [0; 16],
+    run: [0; 16],
+    ahead: [0; 16],
+};
 
 // The kind that a sender wishes for.
 #[derive(Clone, Copy)]
@@ -65,13 +73,6 @@ fn counting_from_zero(n: u8, own: SeatNo) -> Seat
     }
 }
 
-// A state of zeros only, which is not sound.
-fn no_seat() -> Seat
-    ensures { result ≡ no_seat }
-{
-    counting_from_zero(0, SeatNo(0))
-}
-
 // A refusal, with the state that it hands back.
 fn refuse(seat: Seat, refusal: Refusal) -> Stepped
     ensures { result ≡ record { seat = seat; answer = Answer.Refused refusal } }
@@ -89,10 +90,10 @@ impl Seat {
     {
         let header = Header { n, sender: own };
         if !header.is_in_range() {
-            return refuse(no_seat(), Refusal::NoSuchSeat);
+            return refuse(NO_SEAT, Refusal::NoSuchSeat);
         }
         if !shelf::has_whole_slots(shelf) {
-            return refuse(no_seat(), Refusal::NotSound);
+            return refuse(NO_SEAT, Refusal::NotSound);
         }
         shelf::clear_all(shelf);
         Stepped {
@@ -105,13 +106,13 @@ impl Seat {
     pub fn send(self, wish: Wish, body: &[u8], out: &mut [u8]) -> Stepped
         ensures { Sent self wish body.now out.old result out.new }
     {
-        if !is_sound(self) {
+        if !self.is_sound() {
             return refuse(self, Refusal::NotSound);
         }
         if BODY_MOST < body.len() {
             return refuse(self, Refusal::BodyTooLong);
         }
-        let count = own_count(self);
+        let count = self.own_count();
         if count == COUNT_MOST {
             return refuse(self, Refusal::CountFull);
         }
@@ -120,10 +121,10 @@ impl Seat {
             return refuse(self, Refusal::OutputTooShort);
         }
         let kind = Kind::from(wish);
-        let past = past_sent(self);
-        message_sent(self, kind, past).put(body, out);
+        let past = self.past_sent();
+        self.message_sent(kind, past).put(body, out);
         Stepped {
-            seat: after_sending(self, kind, past),
+            seat: self.after_sending(kind, past),
             answer: Answer::Done(Edit {
                 sender: self.own,
                 number: EditNo(count + 1),

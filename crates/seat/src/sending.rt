@@ -21,71 +21,73 @@ impl From<Wish> for Kind {
     }
 }
 
-// How many edits the seat has sent. The caller has found the own number to be in range.
-pub fn own_count(seat: Seat) -> u16
-    requires { (1 ≤ seat.own.0) × (seat.own.0 ≤ 16) }
-    ensures { result ≡ own_count seat }
-{
-    let past = seat.past;
-    past[seat.own.index()]
-}
-
-// Line 1: the barrier that the packet carries is past if causal.
-pub fn barrier_sent(seat: Seat, kind: Kind) -> [u16; 16]
-    ensures { result ≡ barrier_sent seat kind }
-{
-    raised_by(kind, seat.past, seat.barrier)
-}
-
-// Line 2: past[self] rises by 1. The caller has found the own number to be in range, and room for one more edit.
-pub fn past_sent(seat: Seat) -> [u16; 16]
-    requires { (1 ≤ seat.own.0) × (seat.own.0 ≤ 16) × (own_count seat < 65535) }
-    ensures { result ≡ past_sent seat }
-{
-    let mut past = seat.past;
-    past[seat.own.index()] += 1;
-    past
-}
-
-// What the packet says, with the new past. The caller has found the state to be sound.
-pub fn message_sent(seat: Seat, kind: Kind, past: [u16; 16]) -> Message
-    requires sound { sound_state seat ≡ true }
-    requires past { past ≡ past_sent seat }
-    ensures heading { result.heading ≡ headed kind (header_of seat) }
-    ensures past { result.past ≡ past_sent seat }
-    ensures barrier { result.barrier ≡ barrier_sent seat kind }
-{
-    let heading = Heading {
-        n: seat.n,
-        sender: seat.own,
-        kind,
-    };
-    let barrier = barrier_sent(seat, kind);
-    Message {
-        heading,
-        past,
-        barrier,
+impl Seat {
+    // How many edits the seat has sent. The caller has found the own number to be in range.
+    pub(crate) fn own_count(self) -> u16
+        requires { (1 ≤ self.own.0) × (self.own.0 ≤ 16) }
+        ensures { result ≡ own_count self }
+    {
+        let past = self.past;
+        past[self.own.index()]
     }
-}
 
-// Line 4: barrier becomes the new past if causal.
-fn barrier_after(seat: Seat, kind: Kind, past: [u16; 16]) -> [u16; 16]
-    requires { past ≡ past_sent seat }
-    ensures { result ≡ barrier_after seat kind }
-{
-    let before = seat.barrier;
-    raised_by(kind, past, before)
-}
+    // Line 1: the barrier that the packet carries is past if causal.
+    pub(crate) fn barrier_sent(self, kind: Kind) -> [u16; 16]
+        ensures { result ≡ barrier_sent self kind }
+    {
+        raised_by(kind, self.past, self.barrier)
+    }
 
-// The state after sending, with the new past.
-pub fn after_sending(seat: Seat, kind: Kind, past: [u16; 16]) -> Seat
-    requires { past ≡ past_sent seat }
-    ensures { result ≡ sent_seat seat kind }
-{
-    let barrier = barrier_after(seat, kind, past);
-    Seat {
-        past,
-        barrier,
-        ..seat
+    // Line 2: past[self] rises by 1. The caller has found the own number to be in range, and room for one more edit.
+    pub(crate) fn past_sent(self) -> [u16; 16]
+        requires { (1 ≤ self.own.0) × (self.own.0 ≤ 16) × (own_count self < 65535) }
+        ensures { result ≡ past_sent self }
+    {
+        let mut past = self.past;
+        past[self.own.index()] += 1;
+        past
+    }
+
+    // What the packet says, with the new past. The caller has found the state to be sound.
+    pub(crate) fn message_sent(self, kind: Kind, past: [u16; 16]) -> Message
+        requires sound { sound_state self ≡ true }
+        requires past { past ≡ past_sent self }
+        ensures heading { result.heading ≡ headed kind (header_of self) }
+        ensures past { result.past ≡ past_sent self }
+        ensures barrier { result.barrier ≡ barrier_sent self kind }
+    {
+        let heading = Heading {
+            n: self.n,
+            sender: self.own,
+            kind,
+        };
+        let barrier = self.barrier_sent(kind);
+        Message {
+            heading,
+            past,
+            barrier,
+        }
+    }
+
+    // Line 4: barrier becomes the new past if causal.
+    fn barrier_after(self, kind: Kind, past: [u16; 16]) -> [u16; 16]
+        requires { past ≡ past_sent self }
+        ensures { result ≡ barrier_after self kind }
+    {
+        let before = self.barrier;
+        raised_by(kind, past, before)
+    }
+
+    // The state after sending, with the new past.
+    pub(crate) fn after_sending(self, kind: Kind, past: [u16; 16]) -> Seat
+        requires { past ≡ past_sent self }
+        ensures { result ≡ sent_seat self kind }
+    {
+        let barrier = self.barrier_after(kind, past);
+        Seat {
+            past,
+            barrier,
+            ..self
+        }
     }
 }

@@ -8,8 +8,6 @@ ghost use Rattle.seat.specs.Survey.{window_with, marked_with, passes_beside, is_
 ghost use Rattle.seat.specs.Steps.{LookedOver};
 
 use super::Seat;
-use super::sending::own_count;
-use super::state::{is_ready, is_sound};
 use answers::{EditNo, SeatNo};
 use packet::{HEAD_LEN, Heading};
 use shelf::SLOT_SIZE;
@@ -132,7 +130,7 @@ fn passes_beside(
     let number = EditNo(past[at]);
     let window = window_with(run, words, sender);
     let repeated = window.holds(number);
-    let above = own_count(seat) < past[own];
+    let above = seat.own_count() < past[own];
     let far = window.run as u32 + 64 < number.0 as u32;
     (heading.n == seat.n) & !above & !repeated & !far
 }
@@ -178,7 +176,7 @@ fn count_in(
     let at = (sender.0 - 1) as usize;
     let number = EditNo(past[at]);
     mark_in(run, &mut stock.marks, sender, number);
-    if choosing && is_ready(seat, barrier) {
+    if choosing && seat.is_ready(barrier) {
         let next = Ready {
             slot: i,
             sender,
@@ -251,7 +249,7 @@ pub fn survey(choosing: bool, seat: Seat, shelf: &[u8]) -> Option<Stock>
 pub fn look_over(choosing: bool, seat: Seat, shelf: &[u8]) -> Option<Stock>
     ensures { LookedOver choosing seat shelf.now result }
 {
-    if !is_sound(seat) {
+    if !seat.is_sound() {
         return None;
     }
     if !shelf::has_whole_slots(shelf) {

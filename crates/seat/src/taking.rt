@@ -3,7 +3,6 @@ ghost use Rattle.seat.specs.Releasing.{Released};
 ghost use Rattle.seat.specs.Steps.{Chosen, ChosenRead};
 
 use super::arrival::edit_in;
-use super::state::{hand_over, is_barrier_above_past};
 use super::stock::held_in;
 use super::{Seat, Stepped, refuse};
 use answers::{Answer, Refusal};
@@ -22,13 +21,13 @@ fn hand_out(seat: Seat, message: Message, i: usize, shelf: &mut [u8], out: &mut 
     if out.len() < body.len() {
         return refuse(seat, Refusal::OutputTooShort);
     }
-    if is_barrier_above_past(seat, message) {
+    if seat.is_barrier_above_past(message) {
         return refuse(seat, Refusal::BarrierAbovePast);
     }
     put_bytes(out, 0, body);
     shelf::clear(shelf, i);
     Stepped {
-        seat: hand_over(seat, message),
+        seat: seat.hand_over(message),
         answer: Answer::Done(edit),
     }
 }

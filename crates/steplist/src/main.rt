@@ -7,6 +7,7 @@ use steps::memory::Memory;
 
 // The most bytes of a piece of the input, and what they print: 35 for each.
 const PIECE: usize = 4096;
+
 const PRINTED: usize = 143360;
 
 // A proved loop has to end: no input has so many pieces.

@@ -4,19 +4,21 @@ use mathlib.Core.Path.{◌≡◌, subst, ap, ◌∙◌}
 use mathlib.Core.List.{List, []}
 use lib.ListN.{length, take, drop, length-set}
 use borrow.Rule.Slice.PartMut.{put_mid}
+use Rattle.answers.specs.declared.Answer.{Answer}
 use Rattle.packet.specs.Packet.{packet_length}
+use Rattle.packet.specs.Writing.{output_after}
 use Rattle.packet.specs.declared.Kind.{Kind}
 use Rattle.packet.specs.declared.Kind.TheVariants.{Ordinary, Causal}
 use Rattle.packet.proofs.Laid.{length_packet}
 use Rattle.seat.specs.State.{header_of}
-use Rattle.seat.specs.Sending.{kind_of, barrier_sent, past_sent, packet_sent, Sent}
-use Rattle.seat.specs.Arriving.{Arrived}
-use Rattle.seat.specs.Releasing.{Released}
+use Rattle.seat.specs.Sending.{kind_of, barrier_sent, past_sent, packet_sent, sent_seat, send_answer, seat_after, Sent}
+use Rattle.seat.specs.Arriving.{arrive_answer, shelf_after, Arrived}
+use Rattle.seat.specs.Releasing.{chosen_packet, release_answer, shelf_after_release, Released}
 use Rattle.seat.specs.declared.Seat.{Seat}
 use Rattle.seat.specs.declared.Stepped.{Stepped}
 use Rattle.seat.specs.declared.Wish.{Wish}
-use Rattle.steps.specs.Session.{packet_most}
-use Rattle.steps.specs.Memory.{seat_in, shelf_size, shelf_in, piece, with_piece, with_edit, walked_to, SentEmpty, SentAt, ArrivedAt, ReleasedAt}
+use Rattle.steps.specs.Session.{packet_most, handed_to}
+use Rattle.steps.specs.Memory.{seat_in, shelf_size, shelf_in, piece, with_piece, with_edit, walked_to, SentEmpty}
 use Rattle.steps.specs.declared.walk.Walk.{Walk}
 use Rattle.steps.specs.declared.walk.Walked.{Walked}
 use Rattle.steps.proofs.Parts.{part_lent, part_back}
@@ -29,6 +31,44 @@ module _ (seat : Seat) (past_long : length seat.past ≡ 16) (barrier_long : len
   pub empty_packet_long : (wish : Wish) → seat.n ≤ 16 → length (packet_sent seat (kind_of wish) []) ≡ packet_length seat.n 0
   empty_packet_long wish most =
       length_packet (kind_of wish) (header_of seat) (past_sent seat) (barrier_sent seat (kind_of wish)) [] (rw (length-set, past_long) most) (rw (barrier_sent_long (kind_of wish)) most)
+
+-- ---- what the calls leave in memory
+
+-- the seat at i has sent
+pub record SentAs (walk : Walk) (i : ℕ) (wish : Wish) (packets : List ℕ) (answer : Answer) (walked : Walked) (packets-left : List ℕ) : Type 0 where
+  pub walked_is : walked
+      ≡ walked_to (with_edit walk answer) i (seat_after answer (sent_seat (seat_in walk i) (kind_of wish)) (seat_in walk i)) answer
+  pub packets_are : packets-left
+      ≡ with_piece packet_most packets walk.letters
+      (output_after answer (packet_sent (seat_in walk i) (kind_of wish) []) (piece packet_most packets walk.letters))
+  pub packet_long : (seat_in walk i).n ≤ 16 → length (packet_sent (seat_in walk i) (kind_of wish) []) ≡ packet_length (seat_in walk i).n 0
+
+abbrev pub SentAt : Walk → ℕ → Wish → List ℕ → Walked → List ℕ → Type 0
+SentAt walk i wish packets =
+    SentAs walk i wish packets (send_answer (seat_in walk i) [] (piece packet_most packets walk.letters))
+
+-- the seat at i has taken a packet over, or has refused it, and this is its shelf now
+pub record TakenAs (walk : Walk) (i : ℕ) (packet shelf shelves : List ℕ) (answer : Answer) (walked : Walked) (shelves-left : List ℕ) : Type 0 where
+  pub walked_is : walked ≡ walked_to walk i (handed_to answer (seat_in walk i) packet) answer
+  pub shelves_are : shelves-left ≡ with_piece (shelf_size walk) shelves i shelf
+
+-- a packet has arrived at the seat at i
+abbrev ArrivedAs : Walk → ℕ → List ℕ → List ℕ → Answer → Walked → List ℕ → Type 0
+ArrivedAs walk i packet shelves answer = TakenAs walk i packet (shelf_after answer packet (shelf_in walk shelves i)) shelves answer
+
+abbrev pub ArrivedAt : Walk → ℕ → List ℕ → List ℕ → Walked → List ℕ → Type 0
+ArrivedAt walk i packet shelves =
+    ArrivedAs walk i packet shelves (arrive_answer (seat_in walk i) (shelf_in walk shelves i) packet)
+
+-- the seat at i has released a packet
+abbrev ReleasedAs : Walk → ℕ → List ℕ → List ℕ → Answer → Walked → List ℕ → Type 0
+ReleasedAs walk i packet shelves answer =
+    TakenAs walk i packet (shelf_after_release answer (seat_in walk i) (shelf_in walk shelves i)) shelves answer
+
+abbrev pub ReleasedAt : Walk → ℕ → List ℕ → Walked → List ℕ → Type 0
+ReleasedAt walk i shelves =
+    ReleasedAs walk i (chosen_packet (seat_in walk i) (shelf_in walk shelves i)) shelves
+    (release_answer (seat_in walk i) (shelf_in walk shelves i) [])
 
 module _ (walk : Walk) (i : ℕ) (buffer : List ℕ) (stepped : Stepped) (after : List ℕ) (walked : Walked) (start end : ℕ) where
   pub sent_at : (wish : Wish) (noted : Walk) → start ≡ packet_most * walk.letters → end ≡ packet_most * walk.letters + packet_most

@@ -6,7 +6,7 @@ use mathlib.Core.List.{List, ◌++◌}
 use native.Mathlib.Nat.{mul-suc, mul-le-mul_left}
 use native.Mathlib.Decide.{ℕ_discrete}
 use native.Mathlib.Omega.{arith}
-use borrow.Author.Tests.{ltb-true, ltb-false}
+use borrow.Author.Tests.{ltb-true, ltb-false, not-true, not-false}
 use lib.Dec.{eqb, ltb}
 use lib.ListN.{length, get_or, set, take, drop, length-set, length-append, length-drop}
 use lib.Seq.{get_or-set_same, get_or-set_other, get_or-take, length-take-le}
@@ -19,9 +19,14 @@ use Rattle.shelf.proofs.Lowest.{lowest_is_lowest, only_lowest}
 use Rattle.shelf.proofs.Pieces.{put_reads_back, put_keeps_others}
 use Rattle.seat.specs.declared.Seat.{Seat}
 use Rattle.steps.specs.Session.{Letter, place_of, no_place, nobody, letter_at, no_letter, found, with_place, list_of}
-use Rattle.steps.specs.Memory.{with_piece, shelf_size, place_in, no_edit, edit_in, letter_in, session_in, shelves_size, Bounded, is_seated, index_in, found_in, with_seat}
+use Rattle.steps.specs.Memory.{with_piece, shelf_size, place_in, no_edit, edit_in, letter_in, session_in, shelves_size, Bounded, is_seated, index_in, with_seat}
 use Rattle.steps.specs.declared.walk.Walk.{Walk}
 use Rattle.steps.proofs.ListOf.{length_list_of, list_of_at, set_list_of}
+
+-- the first packet that carries this edit, or the number of packets
+abbrev pub found_in : Walk → ℕ → ℕ → ℕ
+found_in walk sender number =
+    lowest walk.letters (λ i. eqb (edit_in walk i).sender.0 sender && eqb (edit_in walk i).number.0 number)
 
 -- what comes back into a buffer that keeps its length is as long as the piece was
 pub back_as_long : (size i : ℕ) (buffer bytes : List ℕ) → size * i + size ≤ length buffer
@@ -49,14 +54,6 @@ indexed walk k found e = by_seated (is_seated walk k) (k - 1) found e
 
 -- ---- the packet that carries an edit
 
-not_true : (b : Bool) → not b ≡ true → b ≡ false
-not_true true e = sym e
-not_true false e = refl
-
-not_false : (b : Bool) → not b ≡ false → b ≡ true
-not_false true e = refl
-not_false false e = sym e
-
 module _ (walk : Walk) (sender number : ℕ) (short : walk.letters ≤ length walk.edits) where
   abbrev test : Edit → Bool
   test edit = eqb edit.sender.0 sender && eqb edit.number.0 number
@@ -81,8 +78,8 @@ module _ (walk : Walk) (sender number : ℕ) (short : walk.letters ≤ length wa
       only_lowest walk.letters (λ i. test (edit_in walk i)) first
       (record {
         most = first_most;
-        fails_below = λ k h. ap test (sym (same_edit k (omega (arith, first_most)))) ∙ not_true _ (prefix_len_passes (λ e. not (test e)) sent k no_edit h);
-        holds = λ h. ap test (sym (same_edit first h)) ∙ not_false _ (prefix_len_stops (λ e. not (test e)) sent no_edit (omega (arith, sent_long)));
+        fails_below = λ k h. ap test (sym (same_edit k (omega (arith, first_most)))) ∙ not-true _ (prefix_len_passes (λ e. not (test e)) sent k no_edit h);
+        holds = λ h. ap test (sym (same_edit first h)) ∙ not-false _ (prefix_len_stops (λ e. not (test e)) sent no_edit (omega (arith, sent_long)));
       })
 
   abbrev Found : Option ℕ → Type 0

@@ -24,11 +24,11 @@ use Rattle.seat.specs.declared.Stepped.{Stepped}
 use Rattle.seat.specs.declared.Wish.{Wish}
 use Rattle.seat.proofs.Sent.{sending_keeps_seats}
 use Rattle.steps.specs.Session.{Letter, Session, Told, unknown, nobody, sends_most, packet_most, room, counted, letters_after, sent, send_told, list_of}
-use Rattle.steps.specs.Memory.{piece, with_piece, seat_in, shelf_in, place_in, packet_in, no_edit, edit_in, letter_in, session_in, packets_size, Bounded, Walks, is_seated, with_send, with_seat, with_edit, walked_to, SentEmpty, SentAt}
+use Rattle.steps.specs.Memory.{piece, with_piece, seat_in, shelf_in, place_in, packet_in, no_edit, edit_in, letter_in, session_in, packets_size, Bounded, Walks, is_seated, with_send, with_seat, with_edit, walked_to, SentEmpty}
 use Rattle.steps.specs.declared.walk.Walk.{Walk}
 use Rattle.steps.specs.declared.walk.Walked.{Walked}
 use Rattle.steps.proofs.Parts.{part_kept}
-use Rattle.steps.proofs.AtSeat.{sent_at}
+use Rattle.steps.proofs.AtSeat.{SentAt, sent_at}
 use Rattle.steps.proofs.ListOf.{same_list_of, set_list_of}
 use Rattle.steps.proofs.Held.{back_as_long, place_held, still_bounded}
 use Rattle.steps.proofs.Walking.{steps_in_session, seated_is, is_seated_lem}

@@ -22,12 +22,12 @@ use Rattle.seat.specs.declared.Seat.{Seat}
 use Rattle.seat.specs.declared.Stepped.{Stepped}
 use Rattle.seat.proofs.HandedOver.{handing_over_keeps_seats}
 use Rattle.steps.specs.Session.{packet_most, Letter, Told, unknown, seated, place_of, with_place, letter_at, found, arrived, arrived_packet, arrive_told, released, release_told}
-use Rattle.steps.specs.Memory.{piece, with_piece, shelf_size, seat_in, shelf_in, place_in, packet_in, session_in, shelves_size, Bounded, Walks, is_seated, found_in, walked_to, ArrivedAt, ReleasedAt}
+use Rattle.steps.specs.Memory.{piece, with_piece, shelf_size, seat_in, shelf_in, place_in, packet_in, session_in, shelves_size, Bounded, Walks, is_seated, walked_to}
 use Rattle.steps.specs.declared.walk.Walk.{Walk}
 use Rattle.steps.specs.declared.walk.Walked.{Walked}
 use Rattle.steps.proofs.Parts.{part_lent, part_kept}
-use Rattle.steps.proofs.AtSeat.{arrived_at, released_at}
-use Rattle.steps.proofs.Held.{back_as_long, shelf_inside, place_held, letters_held, letter_held, found_held, session_after, still_bounded}
+use Rattle.steps.proofs.AtSeat.{ArrivedAt, ReleasedAt, arrived_at, released_at}
+use Rattle.steps.proofs.Held.{found_in, back_as_long, shelf_inside, place_held, letters_held, letter_held, found_held, session_after, still_bounded}
 
 -- a seat that steps stays in its session
 pub steps_in_session : (answer : Answer) (next seat : Seat) → next.n ≡ seat.n → (seat_after answer next seat).n ≡ seat.n

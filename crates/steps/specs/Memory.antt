@@ -1,20 +1,17 @@
 -- How a session is held: the states in an array, the shelves and the packets each in one buffer, in pieces of one size.
-use Rattle.std.specs.Prelude.{ℕ, suc, ◌+◌, ◌*◌, ◌-◌, ◌≤◌, ◌<◌, ◌≡◌, Bool, cond, ◌&&◌, List, [], ◌++◌, leb, eqb, length, get_or, set, take, drop, replicate, Option, Some, None}
+use Rattle.std.specs.Prelude.{ℕ, suc, ◌+◌, ◌*◌, ◌-◌, ◌≤◌, ◌<◌, ◌≡◌, Bool, cond, ◌&&◌, List, [], ◌++◌, leb, length, get_or, set, take, drop, replicate, Option, Some, None}
 use Rattle.answers.specs.Answers.{seat_no, edit_no, report}
 use Rattle.answers.specs.declared.Edit.{Edit}
 use Rattle.answers.specs.declared.Answer.{Answer}
 use Rattle.answers.specs.declared.Answer.TheVariants.{Opened, Done, Shelved, NothingReady, Refused}
 use Rattle.packet.specs.Packet.{packet_length}
-use Rattle.packet.specs.Writing.{output_after}
-use Rattle.shelf.specs.Shelf.{slot_size, lowest}
+use Rattle.shelf.specs.Shelf.{slot_size}
 use Rattle.seat.specs.State.{counting}
-use Rattle.seat.specs.Sending.{kind_of, packet_sent, sent_seat, send_answer, seat_after, Sent}
-use Rattle.seat.specs.Arriving.{arrive_answer, shelf_after}
-use Rattle.seat.specs.Releasing.{chosen_packet, release_answer, shelf_after_release}
+use Rattle.seat.specs.Sending.{kind_of, packet_sent, Sent}
 use Rattle.seat.specs.declared.Seat.{Seat}
 use Rattle.seat.specs.declared.Stepped.{Stepped}
 use Rattle.seat.specs.declared.Wish.{Wish}
-use Rattle.steps.specs.Session.{Place, Letter, Session, Told, nobody, handed_to, sends_most, packet_most, list_of}
+use Rattle.steps.specs.Session.{Place, Letter, Session, Told, nobody, sends_most, packet_most, list_of}
 use Rattle.steps.specs.declared.walk.Walk.{Walk}
 use Rattle.steps.specs.declared.walk.Walked.{Walked}
 
@@ -97,11 +94,6 @@ is_seated walk k = leb 1 k && leb k walk.n
 abbrev pub index_in : Walk → ℕ → Option ℕ
 index_in walk k = cond (is_seated walk k) (Some (k - 1)) None
 
--- The first packet that carries this edit, or the number of packets.
-abbrev pub found_in : Walk → ℕ → ℕ → ℕ
-found_in walk sender number =
-    lowest walk.letters (λ i. eqb (edit_in walk i).sender.0 sender && eqb (edit_in walk i).number.0 number)
-
 -- The walk with one send line more.
 abbrev pub with_send : Walk → Walk
 with_send walk =
@@ -150,39 +142,6 @@ walked_to walk i seat answer = record { walk = with_seat walk i seat; report = r
 pub record SentEmpty (seat : Seat) (wish : Wish) (out : List ℕ) (stepped : Stepped) (after : List ℕ) : Type 0 where
   pub sent : Sent seat wish [] out stepped after
   pub packet_long : seat.n ≤ 16 → length (packet_sent seat (kind_of wish) []) ≡ packet_length seat.n 0
-
--- The seat at i has sent.
-pub record SentAs (walk : Walk) (i : ℕ) (wish : Wish) (packets : List ℕ) (answer : Answer) (walked : Walked) (packets-left : List ℕ) : Type 0 where
-  pub walked_is : walked
-      ≡ walked_to (with_edit walk answer) i (seat_after answer (sent_seat (seat_in walk i) (kind_of wish)) (seat_in walk i)) answer
-  pub packets_are : packets-left
-      ≡ with_piece packet_most packets walk.letters
-      (output_after answer (packet_sent (seat_in walk i) (kind_of wish) []) (piece packet_most packets walk.letters))
-  pub packet_long : (seat_in walk i).n ≤ 16 → length (packet_sent (seat_in walk i) (kind_of wish) []) ≡ packet_length (seat_in walk i).n 0
-
-abbrev pub SentAt : Walk → ℕ → Wish → List ℕ → Walked → List ℕ → Type 0
-SentAt walk i wish packets =
-    SentAs walk i wish packets (send_answer (seat_in walk i) [] (piece packet_most packets walk.letters))
-
--- A packet has arrived at the seat at i.
-pub record ArrivedAs (walk : Walk) (i : ℕ) (packet shelves : List ℕ) (answer : Answer) (walked : Walked) (shelves-left : List ℕ) : Type 0 where
-  pub walked_is : walked ≡ walked_to walk i (handed_to answer (seat_in walk i) packet) answer
-  pub shelves_are : shelves-left ≡ with_piece (shelf_size walk) shelves i (shelf_after answer packet (shelf_in walk shelves i))
-
-abbrev pub ArrivedAt : Walk → ℕ → List ℕ → List ℕ → Walked → List ℕ → Type 0
-ArrivedAt walk i packet shelves =
-    ArrivedAs walk i packet shelves (arrive_answer (seat_in walk i) (shelf_in walk shelves i) packet)
-
--- The seat at i has released a packet.
-pub record ReleasedAs (walk : Walk) (i : ℕ) (packet shelves : List ℕ) (answer : Answer) (walked : Walked) (shelves-left : List ℕ) : Type 0 where
-  pub walked_is : walked ≡ walked_to walk i (handed_to answer (seat_in walk i) packet) answer
-  pub shelves_are : shelves-left
-      ≡ with_piece (shelf_size walk) shelves i (shelf_after_release answer (seat_in walk i) (shelf_in walk shelves i))
-
-abbrev pub ReleasedAt : Walk → ℕ → List ℕ → Walked → List ℕ → Type 0
-ReleasedAt walk i shelves =
-    ReleasedAs walk i (chosen_packet (seat_in walk i) (shelf_in walk shelves i)) shelves
-    (release_answer (seat_in walk i) (shelf_in walk shelves i) [])
 
 -- The seat at i was opened.
 pub record OpenedIn (n slots i : ℕ) (shelves : List ℕ) (seat : Seat) (shelves-left : List ℕ) : Type 0 where

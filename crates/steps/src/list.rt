@@ -19,7 +19,7 @@ use vectors::bytes::put_bytes;
 // A readable line is shorter than this.
 const LINE_MOST: usize = 20;
 
-// The part of a line that has come so far.
+// The part of a line that has come so far. The kit's ArrayVec in place of the length is not Copy, as this is.
 #[derive(Clone, Copy)]
 pub struct Line {
     pub bytes: [u8; 20],
@@ -45,7 +45,7 @@ pub struct Course {
 
 // How far the list has come after a line, and what is printed for the line: a number and a report, or nothing.
 #[derive(Clone, Copy)]
-pub struct Answered {
+struct Answered {
     pub course: Course,
     pub line: Option<(u64, Report)>,
 }
@@ -261,8 +261,8 @@ impl Course {
     }
 
     // No line is left: line one has come, and nothing after the last line feed.
-    fn is_done(self) -> bool
-        ensures { result ≡ is_done self }
+    fn is_done(&self) -> bool
+        ensures { result ≡ is_done self.now }
     {
         match self.stage {
             Stage::First => false,
@@ -271,8 +271,8 @@ impl Course {
     }
 
     // Whether nothing more is printed, whatever comes.
-    pub fn is_over(self) -> bool
-        ensures { result ≡ is_over self.stage }
+    pub fn is_over(&self) -> bool
+        ensures { result ≡ is_over self.now.stage }
     {
         matches!(self.stage, Stage::Ended)
     }

@@ -27,7 +27,7 @@ impl Memory {
 }
 
 // Where the piece at an index stands.
-pub fn piece_at(size: usize, at: usize) -> Range<usize>
+pub(crate) fn piece_at(size: usize, at: usize) -> Range<usize>
     requires end { size * at + size < 2 ^ 64 }
     ensures start { result.start ≡ size * at }
     ensures end { result.end ≡ size * at + size }

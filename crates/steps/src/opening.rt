@@ -7,18 +7,8 @@ ghost use Rattle.steps.specs.Memory.{slots_most, session_in, Bounded, AllOpened,
 use super::memory::{Memory, piece_at};
 use super::walk::{NO_EDIT, Walk};
 use answers::SeatNo;
-use seat::Seat;
+use seat::{NO_SEAT, Seat};
 use shelf::SLOT_SIZE;
-
-// What stands where no seat was opened.
-const NOBODY: Seat = Seat {
-    n: 0,
-    own: SeatNo(0),
-    past: [0; 16],
-    barrier: [0; 16],
-    run: [0; 16],
-    ahead: [0; 16],
-};
 
 // The seat at an index is opened: its number is one more.
 fn open_at(n: u8, slots: usize, at: usize, memory: &mut Memory) -> Seat
@@ -39,7 +29,7 @@ fn open_all(n: u8, slots: usize, memory: &mut Memory) -> [Seat; 16]
     requires slots { slots ≤ slots_most }
     ensures { AllOpened n n slots result memory.new.shelves }
 {
-    let mut seats = [NOBODY; 16];
+    let mut seats = [NO_SEAT; 16];
     for at in 0..n as usize {
         seats[at] = open_at(n, slots, at, memory);
     }
@@ -57,7 +47,7 @@ impl Walk {
             slots: 0,
             sends: 0,
             letters: 0,
-            seats: [NOBODY; 16],
+            seats: [NO_SEAT; 16],
             edits: [NO_EDIT; 256],
         }
     }

@@ -122,8 +122,8 @@ impl Walk {
     }
 
     // The index of a seat of the session.
-    fn index(self, seat: u32) -> Option<usize>
-        ensures { result ≡ index_in self seat }
+    fn index(&self, seat: u32) -> Option<usize>
+        ensures { result ≡ index_in self.now seat }
     {
         if (1 <= seat) & (seat <= self.n as u32) {
             return Some((seat - 1) as usize);
@@ -132,19 +132,19 @@ impl Walk {
     }
 
     // Where the shelf of the seat at an index stands.
-    fn shelf(self, at: usize) -> Range<usize>
+    fn shelf(&self, at: usize) -> Range<usize>
         requires seats { at < 16 }
-        requires slots { self.slots ≤ 8 }
-        ensures start { result.start ≡ shelf_size self * at }
-        ensures end { result.end ≡ shelf_size self * at + shelf_size self }
+        requires slots { self.now.slots ≤ 8 }
+        ensures start { result.start ≡ shelf_size self.now * at }
+        ensures end { result.end ≡ shelf_size self.now * at + shelf_size self.now }
     {
         piece_at(self.slots * SLOT_SIZE, at)
     }
 
     // The packet that carries this edit.
-    fn find(self, sender: u32, number: u32) -> Option<usize>
-        requires { self.letters ≤ 256 }
-        ensures { result ≡ position (λ edit. (edit.sender.0 == sender) && (edit.number.0 == number)) (take self.letters self.edits) }
+    fn find(&self, sender: u32, number: u32) -> Option<usize>
+        requires { self.now.letters ≤ 256 }
+        ensures { result ≡ position (λ edit. (edit.sender.0 == sender) && (edit.number.0 == number)) (take self.now.letters self.now.edits) }
     {
         let edits = &self.edits[..self.letters];
         edits.iter().position(|edit| carries(*edit, sender, number))
@@ -155,7 +155,8 @@ impl Walk {
         requires { Bounded self }
         ensures { Walks (send_told (session_in self memory.old.shelves memory.old.packets) seat wish) result memory.new.shelves memory.new.packets }
     {
-        if SENDS_MOST <= self.sends {
+        let full = SENDS_MOST <= self.sends;
+        if full {
             return self.unknown();
         }
         let next = Walk {

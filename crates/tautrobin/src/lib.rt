@@ -13,7 +13,7 @@ ghost use Rattle.tautrobin.specs.Calls.{packed, kind_most, wish_of, bad_call_num
 use answers::{Report, SeatNo};
 use image::{IMAGE_SIZE, decode, encode, encode_counts};
 use packet::Header;
-use seat::{Seat, Stepped, Wish, is_sound};
+use seat::{Seat, Stepped, Wish};
 
 // What the calls refuse before the library's step. The four calls keep their type for C, so that it is told by its number.
 #[derive(Clone, Copy)]
@@ -106,7 +106,7 @@ pub fn tautrobin_send(state: &mut [u8], kind: u32, body: &[u8], out: &mut [u8]) 
     }
     let seat = decode(&*state);
     let Some(wish) = wish_of(kind) else {
-        if is_sound(seat) {
+        if seat.is_sound() {
             return BadCall::NoSuchKind.number();
         }
         return BadCall::NotSound.number();

@@ -1,6 +1,6 @@
 -- Laws of the tests over vectors: what each says of every entry, and the other way round.
 use Prim.Native.Nat.{ℕ, ◌+◌, ◌-◌, ◌≤◌, ◌<◌, min, max}
-use mathlib.Core.Path.{◌≡◌, refl, sym, ap, ap₂, ◌∙◌}
+use mathlib.Core.Path.{◌≡◌, sym, ap, ap₂, ◌∙◌}
 use mathlib.Core.List.{List, map}
 use mathlib.Core.Bool.{Bool, true, ◌&&◌, ◌||◌, or-true}
 use native.Mathlib.Decide.{ℕ_discrete, dec_lt}
@@ -55,11 +55,6 @@ module _ (a b : List ℕ) where
   -- what `==` answers
   pub same_decided : (answer : Bool) → length a ≡ 16 → length b ≡ 16 → answer ≡ pointwise eqb a b → answer ≡ same a b
   same_decided answer la lb e = same_from_decides answer (same a b) (slice_eq-Decides Decides-eqb a b answer e) (same_is la lb, same_of)
-
--- every entry is above 0 seats
-pub zero_above_none : (v : List ℕ) → zero_above 0 v ≡ all 16 (λ k. eqb (get_or v k 0) 0)
-unfolding zero_above all
-zero_above_none v = refl
 
 module _ (n : ℕ) (v : List ℕ) where
   pub zero_above_at : zero_above n v ≡ true → (k : ℕ) → n ≤ k → k < 16 → get_or v k 0 ≡ 0

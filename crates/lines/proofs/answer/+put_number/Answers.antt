@@ -10,8 +10,8 @@ bounds-out-at t c = omega (arith, ap length (one_digit c.args.number (omega arit
 pub overflow_add-result : goal.overflow_add-result
 overflow_add-result t c = omega (arith, ap length (one_digit c.args.number (omega arith)))
 
-pub returns-then-number-lt10 : goal.returns-then-number-lt10
-returns-then-number-lt10 t c = wrote_one_digit _ _ _ (omega arith)
+pub returns-then-one_digit : goal.returns-then-one_digit
+returns-then-one_digit t c = wrote_one_digit _ _ _ (omega arith)
 
 pub put_number-last-requires : goal.put_number-last-requires
 put_number-last-requires t c = (omega arith, omega (arith, digit_more c.args.number (omega arith) (omega arith)))

@@ -5,12 +5,12 @@ use Rattle.seat.proofs.Seat.open.Goals as goal
 
 pub returns-then-not-is_in_range : goal.returns-then-not-is_in_range
 returns-then-not-is_in_range c =
-    rw (c.refuse.ensures, c.no_seat.ensures)
+    rw c.refuse.ensures
     (refused_open _ _ _ _ (no_such_seat_answers_20 _ _ _ (sym c.is_in_range.ensures ∙ c.if-not-is_in_range.true)))
 
 pub returns-then-not-has_whole_slots : goal.returns-then-not-has_whole_slots
 returns-then-not-has_whole_slots c =
-    rw (c.refuse-then-not-has_whole_slots.ensures, c.no_seat-then-not-has_whole_slots.ensures)
+    rw c.refuse-then-not-has_whole_slots.ensures
     (refused_open _ _ _ _
     (broken_shelf_answers_10 _ _ _ (sym c.is_in_range.ensures ∙ c.if-not-is_in_range.false) (sym c.has_whole_slots.ensures ∙ c.if-not-has_whole_slots.true)))
 

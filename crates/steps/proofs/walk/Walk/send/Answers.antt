@@ -7,11 +7,11 @@ use Rattle.steps.proofs.Walking.{unknown_walks}
 use Rattle.steps.proofs.Sends.{too_many_sends, nobody_sends, counted_bounded, sent_walks}
 use Rattle.steps.proofs.walk.Walk.send.Goals as goal
 
-pub returns-then-self-ge-SENDS_MOST : goal.returns-then-self-ge-SENDS_MOST
-returns-then-self-ge-SENDS_MOST c =
+pub returns-then-full : goal.returns-then-full
+returns-then-full c =
     let a = c.args in
     unknown_walks a.self a.memory.now.shelves a.memory.now.packets _ c.unknown.result c.requires
-    (too_many_sends a.self a.memory.now.shelves a.memory.now.packets a.seat a.wish c.if-self-ge-SENDS_MOST.true) c.unknown.ensures
+    (too_many_sends a.self a.memory.now.shelves a.memory.now.packets a.seat a.wish c.if-full.true) c.unknown.ensures
 
 pub returns-in_default : goal.returns-in_default
 returns-in_default c =

@@ -8,7 +8,7 @@ use Rattle.vectors.specs.Vectors.{all}
 use Rattle.vectors.proofs.Every.{all_of, all_fails}
 use Rattle.window.specs.Window.{sound_window}
 use Rattle.seat.specs.State.{window_at, sound_windows}
-use Rattle.seat.proofs.state.has_sound_windows.Goals as goal
+use Rattle.seat.proofs.Seat.has_sound_windows.Goals as goal
 
 -- a test of each number below n
 all_below : (n : ℕ) (test : ℕ → Bool) (r : Bool)
@@ -25,7 +25,7 @@ all_below n test false (k, h, bad) =
 pub returns : goal.returns
 unfolding sound_windows
 returns c =
-    let sound : ℕ → Bool = λ k. sound_window (get_or c.args.seat.past k 0) (window_at c.args.seat k) in
+    let sound : ℕ → Bool = λ k. sound_window (get_or c.args.self.past k 0) (window_at c.args.self k) in
     all_below 16 sound _
     (cases_from_all _ _ _ (λ k. sound k ≡ true) (λ k. sound k ≡ false) c.all.ensures.ran (YieldsList-from_range 0 16 16 refl refl)
     (λ x q k. (search rules, search (rules, tests)))
