@@ -1,19 +1,26 @@
 -- Laws of a packet beside the words that a look gathers: the tests that it passes.
 use Prim.Native.Nat.{ℕ, ◌+◌, ◌≤◌, ◌<◌}
-use mathlib.Core.Path.{◌≡◌, refl, sym}
-use mathlib.Core.Bool.{Bool, true, false, not, ◌&&◌, ◌||◌, not-not}
+use mathlib.Core.Path.{◌≡◌, refl, sym, ◌∙◌}
+use mathlib.Core.Bool.{Bool, true, false, not, ◌&&◌, ◌||◌}
 use mathlib.Core.List.{List}
-use lib.Dec.{eqb}
-use borrow.Author.Tests.{not-true, ltb-false}
+use borrow.Author.Tests.{not-true, not-false, ltb-false, eq-eqb, eqb-true}
+use Rattle.std.specs.Prelude.{Result, Ok, Err, is_ok}
+use Rattle.answers.specs.Answers.{first_of}
+use Rattle.answers.specs.declared.Refusal.{Refusal}
+use Rattle.answers.specs.declared.Answer.{Answer}
+use Rattle.answers.specs.declared.Answer.TheVariants.{Shelved}
+use Rattle.answers.proofs.InOrder.{shelved_is_no_refusal}
 use Rattle.vectors.specs.Vectors.{entry}
 use Rattle.vectors.proofs.Every.{and_both}
 use Rattle.window.specs.Window.{handed}
-use Rattle.window.specs.declared.Window.{Window}
 use Rattle.window.proofs.Handed.{not_handed_is_above_run}
 use Rattle.packet.specs.declared.Heading.{Heading}
 use Rattle.seat.specs.Stock.{other_session, above_own_count, too_far_ahead}
 use Rattle.seat.specs.Survey.{window_with, passes_beside}
+use Rattle.seat.specs.Arriving.{admission_refusals}
+use Rattle.seat.specs.Steps.{unless}
 use Rattle.seat.specs.declared.Seat.{Seat}
+use Rattle.seat.proofs.Admitting.{Admission, admission_passed, passes_all}
 
 -- the words count what is repeated on an earlier slot
 pub beside : (session above repeated before far : Bool)
@@ -37,10 +44,30 @@ passed_is_in_window seat words heading past passed =
     let new = and_both (not (other_session seat heading) && not (above_own_count seat past)) (not repeated) near.0 in
     (not_handed_is_above_run (window_with seat.run words heading.sender) number (not-true repeated new.1), ltb-false _ _ (not-true far near.1))
 
-pub passes_by_tests : (seat : Seat) (words : List ℕ) (heading : Heading) (past : List ℕ) (number : ℕ) (window : Window) (repeated above far : Bool)
-    → number ≡ entry past heading.sender → window ≡ window_with seat.run words heading.sender → repeated ≡ handed window number
-    → above ≡ above_own_count seat past → far ≡ too_far_ahead seat heading.sender number
-    → (eqb heading.n seat.n && not above && not repeated && not far) ≡ passes_beside seat words heading past
-unfolding passes_beside
-passes_by_tests seat words heading past number window repeated above far is_number is-window is-repeated is-above is-far =
-    rw (is-repeated, is-above, is-far, is-window, is_number) (sym (rw (not-not (eqb heading.n seat.n))))
+-- what is admitted passes, and what is refused does not
+module _ (seat : Seat) (words : List ℕ) (heading : Heading) (past : List ℕ) where
+  abbrev repeated : Bool
+  repeated = handed (window_with seat.run words heading.sender) (entry past heading.sender)
+
+  passes_where : Admission seat heading past repeated → passes_beside seat words heading past ≡ true
+  unfolding passes_beside
+  passes_where a = simp (eq-eqb _ _ a.same, a.own, a.new, a.near)
+
+  admits_where : passes_beside seat words heading past ≡ true → (done : Answer) → first_of (admission_refusals seat heading past repeated) done ≡ done
+  unfolding passes_beside
+  admits_where passed done =
+      let far = too_far_ahead seat heading.sender (entry past heading.sender) in
+      let near = and_both (not (other_session seat heading) && not (above_own_count seat past) && not repeated) (not far) passed in
+      let new = and_both (not (other_session seat heading) && not (above_own_count seat past)) (not repeated) near.0 in
+      let own = and_both (not (other_session seat heading)) (not (above_own_count seat past)) new.0 in
+      passes_all seat heading past repeated done (eqb-true _ _ (not-false _ (not-true _ own.0))) (not-true _ own.1) (not-true _ new.1) (not-true far near.1)
+
+  pub admitted_is_passed : (result : Result (Unit {0}) Refusal) → ((done : Answer) → unless result done ≡ first_of (admission_refusals seat heading past repeated) done)
+      → is_ok result ≡ passes_beside seat words heading past
+  admitted_is_passed (Ok passed) admits =
+      sym (passes_where (admission_passed seat heading past repeated Shelved Shelved (sym (admits Shelved)) shelved_is_no_refusal).0)
+  admitted_is_passed (Err refusal) admits = refused_is_not _ refl
+    where
+      refused_is_not : (passed : Bool) → passes_beside seat words heading past ≡ passed → false ≡ passes_beside seat words heading past
+      refused_is_not false e = sym e
+      refused_is_not true e = absurd (shelved_is_no_refusal refusal (admits Shelved ∙ admits_where e Shelved))

@@ -54,3 +54,8 @@ answer_of edit (Err refusal) = Refused refusal
 abbrev pub GoesToLowest : List ℕ → Place → Type 0
 GoesToLowest shelf ToSeat = ⊤
 GoesToLowest shelf (Slot i) = (i < slots shelf) × (i ≡ lowest_free shelf)
+
+-- What a call is answered that is done unless this refuses it.
+abbrev pub unless : {A : Type 0} → Result A Refusal → Answer → Answer
+unless (Ok passed) done = done
+unless (Err refusal) done = Refused refusal

@@ -69,15 +69,11 @@ pub record Looked (choosing : Bool) (n : ℕ) (seat : Seat) (shelf : List ℕ) (
       → handed (window_with seat.run stock.marks sender) number ≡ (is_handed seat sender number || on_slots n shelf sender number)
   pub first_is : choosing ≡ true → FirstReady n seat shelf stock.first
 
--- What is known before slot i is looked at: it is there and in use, those before it are sound, the own number is in range,
--- and run is the seat's.
-pub record Looking (choosing : Bool) (i : ℕ) (seat : Seat) (run shelf : List ℕ) (stock : Stock) : Type 0 where
+-- What is known before slot i is looked at: it is there and in use, and those before it are sound.
+pub record Looking (choosing : Bool) (i : ℕ) (seat : Seat) (shelf : List ℕ) (stock : Stock) : Type 0 where
   pub there : i < slots shelf
   pub used : is_free shelf i ≡ false
   pub long : length stock.marks ≡ 16
-  pub own_low : 1 ≤ seat.own.0
-  pub own_high : seat.own.0 ≤ 16
-  pub run_is : run ≡ seat.run
   pub looked : Looked choosing i seat shelf stock
 
 -- The slot of the ready packet that comes first.

@@ -9,7 +9,8 @@ ghost use Rattle.seat.specs.Arriving.{admission_refusals, admitted_answer, Arriv
 ghost use Rattle.seat.specs.Survey.{window_with};
 ghost use Rattle.seat.specs.Steps.{Heard, answer_of, GoesToLowest};
 
-use super::stock::{Stock, is_above_own_count, is_too_far_ahead, window_with};
+use super::admission::admit;
+use super::stock::Stock;
 use super::{Seat, Stepped, refuse};
 use answers::{Answer, Edit, Refusal};
 use packet::{HEAD_LEN, Message};
@@ -53,25 +54,11 @@ fn place_of(seat: Seat, message: Message, shelf: &[u8]) -> Result<Place, Refusal
 }
 
 // Where a packet goes that passed refusals 10 and 14. The words say which numbers are handed over or on the shelf.
-fn judge(seat: Seat, marks: [u64; 16], message: Message, shelf: &[u8]) -> Result<Place, Refusal>
-    ensures answer { (edit : Edit) → answer_of edit result ≡ first_of (admission_refusals seat message.heading message.past (handed (window_with seat.run marks message.heading.sender) (entry message.past message.heading.sender))) (admitted_answer seat shelf.now message.heading message.past message.barrier edit) }
+fn judge(seat: Seat, words: &[u64; 16], message: Message, shelf: &[u8]) -> Result<Place, Refusal>
+    ensures answer { (edit : Edit) → answer_of edit result ≡ first_of (admission_refusals seat message.heading message.past (handed (window_with seat.run words.now message.heading.sender) (entry message.past message.heading.sender))) (admitted_answer seat shelf.now message.heading message.past message.barrier edit) }
     ensures slot { IfOk result (GoesToLowest shelf.now) }
 {
-    let sender = message.heading.sender;
-    let number = message.number();
-    if message.heading.n != seat.n {
-        return Err(Refusal::OtherSession);
-    }
-    if is_above_own_count(seat, message.past) {
-        return Err(Refusal::AboveOwnCount);
-    }
-    let run = seat.run;
-    if window_with(&run, &marks, sender).holds(number) {
-        return Err(Refusal::Repeated);
-    }
-    if is_too_far_ahead(seat, sender, number) {
-        return Err(Refusal::TooFarAhead);
-    }
+    admit(&seat, words, &message)?;
     place_of(seat, message, shelf)
 }
 
@@ -86,7 +73,7 @@ pub fn settle(
     requires { Heard seat shelf.old stock packet.now message.heading message.past message.barrier }
     ensures { Arrived seat packet.now shelf.old result shelf.new }
 {
-    let marks = stock.marks;
+    let marks = &stock.marks;
     match judge(seat, marks, message, &*shelf) {
         Ok(Place::Seat) => Stepped {
             seat: seat.hand_over(message),

@@ -1,6 +1,7 @@
 // A seat of a shared session: its state, and the four steps open, send, arrive and release (document 01, "The steps").
 #![tactic(auto)]
 
+mod admission;
 mod arrival;
 mod sending;
 mod state;

@@ -1,11 +1,12 @@
 -- Laws of slots: a shelf with other bytes in place of a slot, read slot by slot.
 use Prim.Native.Nat.{ℕ, ◌+◌, ◌-◌, ◌*◌, ◌/◌, ◌%◌, ◌≤◌, ◌<◌}
-use mathlib.Core.Path.{◌≡◌, ap}
+use mathlib.Core.Path.{◌≡◌, sym, ap, ◌∙◌}
 use mathlib.Core.Bool.{true}
 use mathlib.Core.List.{List, ◌++◌}
 use native.Mathlib.Omega.{arith}
 use lib.Dec.{eqb, leb}
-use lib.ListN.{length, take, drop}
+use lib.ListN.{length, take, drop, length-append, length-drop}
+use lib.Seq.{take_at, drop_at, drop-drop}
 use borrow.Rule.Slice.PartMut.{put_mid, Post-is}
 use borrow.Author.Tests.{eqb-true, leb-true}
 use Rattle.vectors.proofs.Every.{and_both}
@@ -63,3 +64,25 @@ module _ (shelf : List ℕ) (i : ℕ) (slot : List ℕ) (there : i < slots shelf
 pub same_slots_same_shelf : (a b : List ℕ) → whole_slots a ≡ true → length a ≡ length b → ((i : ℕ) → i < slots a → slot_at a i ≡ slot_at b i) → a ≡ b
 unfolding slot_at
 same_slots_same_shelf a b whole long each = same_pieces_same_list slot_size (slots a) a b (omega arith) (whole_is_slots a whole).0 long each
+
+-- a shelf read in chunks of a slot's size: the chunk after i slots is slot i, and at the end none is left
+module _ (shelf : List ℕ) (i : ℕ) (size : ℕ) (rest : List ℕ) (whole : size ≡ slot_size) (left : rest ≡ drop (slot_size * i) shelf) where
+  as_long : length rest ≡ length shelf - slot_size * i
+  as_long = ap length left ∙ length-drop (slot_size * i) shelf
+
+  module _ (chunk after : List ℕ) (is : rest ≡ chunk ++ after) (long : length chunk ≡ size) where
+    pub chunk_is_there : i < slots shelf
+    chunk_is_there = omega (arith, as_long, ap length is ∙ length-append chunk after)
+
+    pub chunk_is_slot : chunk ≡ slot_at shelf i
+    unfolding slot_at
+    chunk_is_slot = sym (ap (take slot_size) (sym left ∙ is) ∙ take_at chunk after slot_size (long ∙ whole))
+
+    pub chunk_leaves : after ≡ drop (slot_size * (i + 1)) shelf
+    chunk_leaves =
+        let place : slot_size * i + slot_size ≡ slot_size * (i + 1) = omega arith in
+        sym (drop_at chunk after slot_size (long ∙ whole)) ∙ ap (drop slot_size) (sym is ∙ left) ∙ drop-drop slot_size (slot_size * i) shelf
+        ∙ ap (λ (n : ℕ). drop n shelf) place
+
+  pub none_left : i ≤ slots shelf → length rest < size → i ≡ slots shelf
+  none_left inside short = omega (arith, as_long)

@@ -1,6 +1,5 @@
 -- `look_over` meets its contract.
-use Rattle.std.proofs.Common.{sym, ◌∙◌, arith}
-use Rattle.seat.proofs.Sound.{sound_says}
+use Rattle.std.proofs.Common.{sym, ◌∙◌}
 use Rattle.seat.proofs.LookedOver.{unsound_state, broken_slots, surveyed_shelf}
 use Rattle.seat.proofs.stock.look_over.Goals as goal
 
@@ -10,11 +9,6 @@ returns-then-not-is_sound c = unsound_state c.args.choosing _ _ (sym c.is_sound.
 pub returns-then-not-has_whole_slots : goal.returns-then-not-has_whole_slots
 returns-then-not-has_whole_slots c =
     broken_slots c.args.choosing _ _ (sym c.is_sound.ensures ∙ c.if-not-is_sound.false) (sym c.has_whole_slots.ensures ∙ c.if-not-has_whole_slots.true)
-
-pub survey-requires : goal.survey-requires
-survey-requires c =
-    let sound = sound_says _ (sym c.is_sound.ensures ∙ c.if-not-is_sound.false) in
-    record { own_low = sound.own_low; own_high = omega arith }
 
 pub returns : goal.returns
 returns c =
