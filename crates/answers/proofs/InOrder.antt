@@ -1,11 +1,12 @@
 -- Laws of refusals in their order: the first that applies is the answer, and what an answer tells of those before it.
-use Prim.Native.Nat.{ℕ, ◌≤◌}
+use Prim.Native.Nat.{◌≤◌, ◌<◌}
 use mathlib.Core.Path.{◌≡◌, refl}
 use mathlib.Core.Bool.{Bool, true, false}
 use mathlib.Core.List.{List, [], ◌∷◌}
 use native.Mathlib.Omega.{arith}
-use Rattle.answers.specs.Answers.{report, first_of}
+use Rattle.answers.specs.Answers.{report, refusal_number, first_of}
 use Rattle.answers.specs.declared.Refusal.{Refusal}
+use Rattle.answers.specs.declared.Refusal.TheVariants.{NotSound, BodyTooLong, CountFull, OutputTooShort, NotWellFormed, OtherSession, AboveOwnCount, Repeated, TooFarAhead, ShelfFull, NoSuchSeat, BarrierAbovePast}
 use Rattle.answers.specs.declared.Answer.{Answer}
 use Rattle.answers.specs.declared.Answer.TheVariants.{Opened, Done, Shelved, NothingReady, Refused}
 use Rattle.answers.specs.declared.Edit.{Edit}
@@ -15,16 +16,16 @@ abbrev pub NoRefusal : Answer → Type 0
 NoRefusal answer = (refusal : Refusal) → Refused refusal ≡ answer → ⊥
 
 pub done_is_no_refusal : (edit : Edit) → NoRefusal (Done edit)
-done_is_no_refusal edit refusal e = let z : ◌≡◌ {A = ℕ} 0 1 = cc in omega arith
+done_is_no_refusal edit refusal e = cc
 
 pub shelved_is_no_refusal : NoRefusal Shelved
-shelved_is_no_refusal refusal e = let z : ◌≡◌ {A = ℕ} 0 1 = cc in omega arith
+shelved_is_no_refusal refusal e = cc
 
 pub idle_is_no_refusal : NoRefusal NothingReady
-idle_is_no_refusal refusal e = let z : ◌≡◌ {A = ℕ} 0 1 = cc in omega arith
+idle_is_no_refusal refusal e = cc
 
 pub opened_is_no_refusal : NoRefusal Opened
-opened_is_no_refusal refusal e = let z : ◌≡◌ {A = ℕ} 0 1 = cc in omega arith
+opened_is_no_refusal refusal e = cc
 
 module _ (refusal : Refusal) (rest : List (Refusal × Bool)) (done : Answer) where
   pub refuses : (test : Bool) → test ≡ true → first_of ((refusal, test) ∷ rest) done ≡ Refused refusal
@@ -53,3 +54,18 @@ from_10_is_refused (Done edit) h = absurd (omega arith)
 from_10_is_refused Shelved h = absurd (omega arith)
 from_10_is_refused NothingReady h = absurd (omega arith)
 from_10_is_refused (Refused refusal) h = (refusal, refl)
+
+-- a refusal's number is from 10 up, and fits a byte
+pub refusals_between : (refusal : Refusal) → (10 ≤ refusal_number refusal) × (refusal_number refusal < 256)
+refusals_between NotSound = (omega arith, omega arith)
+refusals_between BodyTooLong = (omega arith, omega arith)
+refusals_between CountFull = (omega arith, omega arith)
+refusals_between OutputTooShort = (omega arith, omega arith)
+refusals_between NotWellFormed = (omega arith, omega arith)
+refusals_between OtherSession = (omega arith, omega arith)
+refusals_between AboveOwnCount = (omega arith, omega arith)
+refusals_between Repeated = (omega arith, omega arith)
+refusals_between TooFarAhead = (omega arith, omega arith)
+refusals_between ShelfFull = (omega arith, omega arith)
+refusals_between NoSuchSeat = (omega arith, omega arith)
+refusals_between BarrierAbovePast = (omega arith, omega arith)

@@ -47,6 +47,8 @@ pub enum Refusal {
     BarrierAbovePast = 23,
 }
 
+// Every answer in one enum, as document 01 has one table. A refused call hands its state back too, so that no call could
+// pass the error of a Result on.
 #[derive(Clone, Copy)]
 pub enum Answer {
     Opened,
@@ -56,7 +58,8 @@ pub enum Answer {
     Refused(Refusal),
 }
 
-// An answer in document 01's numbers: an edit of zeros where it names none.
+// An answer in document 01's numbers, of which some are given by the step list and the C calls alone: an edit of zeros
+// where it names none.
 #[derive(Clone, Copy)]
 pub struct Report {
     pub answer: u8,

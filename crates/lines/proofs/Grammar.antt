@@ -6,10 +6,9 @@ use mathlib.Core.List.{List, [], ◌∷◌}
 use native.Mathlib.Omega.{arith}
 use lib.Dec.{eqb}
 use lib.ListN.{length, get_or}
-use borrow.Author.Tests.{eqb-true}
+use Rattle.std.proofs.lemmas.Bool.{eqb-true, and_parts}
 use Rattle.std.specs.Prelude.{Option, Some, None, option_map, option_and_then}
 use Rattle.std.proofs.lemmas.Bool.{false_from_ne_true}
-use Rattle.vectors.proofs.Every.{and_both}
 use Rattle.lines.specs.Lines.{space, with_first, words, is_number, number_in, number_of, is_letter, letter_of, read_send, read_arrival, read_release, read_words, read_step, read_numbers, read_opening}
 use Rattle.lines.specs.declared.Opening.{Opening}
 use Rattle.lines.specs.declared.Letter.{Letter}
@@ -54,7 +53,7 @@ spaced_letter : (letter : ℕ) → space < letter → (word : List ℕ) (k : ℕ
 spaced_letter letter low word k h at =
     false_from_ne_true (is_letter letter word)
     (λ e.
-    let both = and_both (eqb (length word) 1) (eqb (get_or word 0 0) letter) e in
+    let both = and_parts (eqb (length word) 1) (eqb (get_or word 0 0) letter) e in
     let first : k ≡ 0 = omega (arith, eqb-true _ _ both.0) in
     let is : get_or word k 0 ≡ letter = ap (λ (i : ℕ). get_or word i 0) first ∙ eqb-true _ _ both.1 in
     absurd (omega arith))

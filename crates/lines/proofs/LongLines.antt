@@ -6,9 +6,8 @@ use mathlib.Core.List.{List, [], ◌∷◌}
 use native.Mathlib.Omega.{arith}
 use lib.Dec.{eqb}
 use lib.ListN.{length, get_or}
-use borrow.Author.Tests.{eqb-true}
+use Rattle.std.proofs.lemmas.Bool.{eqb-true, and_parts}
 use Rattle.std.specs.Prelude.{None}
-use Rattle.vectors.proofs.Every.{and_both}
 use Rattle.lines.specs.Lines.{space, with_first, words, is_number, is_letter, read_send, read_arrival, read_release, read_words, read_step, read_numbers, read_opening}
 use Rattle.lines.specs.Kept.{line_most}
 use Rattle.lines.proofs.Numbers.{number_says}
@@ -32,11 +31,11 @@ span_of_words (byte ∷ rest) = by_space (eqb byte space) (words rest) (span_of_
 -- ---- how long a number and a letter are
 
 two_numbers : (a b : List ℕ) → (is_number a && is_number b) ≡ true → (is_number a ≡ true) × (is_number b ≡ true)
-two_numbers a b e = and_both (is_number a) (is_number b) e
+two_numbers a b e = and_parts (is_number a) (is_number b) e
 
 three_numbers : (a b c : List ℕ) → (is_number a && is_number b && is_number c) ≡ true → (is_number a ≡ true) × (is_number b ≡ true) × (is_number c ≡ true)
 three_numbers a b c e =
-    let ab-c = and_both (is_number a && is_number b) (is_number c) e in
+    let ab-c = and_parts (is_number a && is_number b) (is_number c) e in
     let a-b = two_numbers a b ab-c.0 in
     (a-b.0, a-b.1, ab-c.1)
 
@@ -44,7 +43,7 @@ number_short : (word : List ℕ) → is_number word ≡ true → length word ≤
 number_short word e = (number_says word e).few
 
 letter_short : (letter : ℕ) (word : List ℕ) → is_letter letter word ≡ true → length word ≡ 1
-letter_short letter word e = eqb-true _ _ (and_both (eqb (length word) 1) (eqb (get_or word 0 0) letter) e).0
+letter_short letter word e = eqb-true _ _ (and_parts (eqb (length word) 1) (eqb (get_or word 0 0) letter) e).0
 
 -- both ways lead to z
 meets : {A : Type 0} {x y z : A} (test : Bool) → (test ≡ true → x ≡ z) → y ≡ z → cond test x y ≡ z
@@ -61,7 +60,7 @@ long_send (seat ∷ kind ∷ []) h = meets _ (too_long 111) (meets _ (too_long 9
   where
     too_long : {A : Type 0} {x y : A} (letter : ℕ) → (is_number seat && is_letter letter kind) ≡ true → x ≡ y
     too_long letter e =
-        let both = and_both (is_number seat) (is_letter letter kind) e in
+        let both = and_parts (is_number seat) (is_letter letter kind) e in
         absurd (omega (arith, number_short seat both.0, letter_short letter kind both.1))
 long_send (seat ∷ kind ∷ more ∷ others) h = refl
 

@@ -11,8 +11,8 @@ use lib.ListN.{length, get_or, take}
 use lib.Seq.{take_all}
 use Rattle.std.specs.List.{list_all}
 use Rattle.std.proofs.lemmas.List.Folds.{list_all_more}
-use borrow.Author.Tests.{leb-true}
-use Rattle.vectors.proofs.Every.{and_both, all_at}
+use Rattle.std.proofs.lemmas.Bool.{leb-true, and_parts}
+use Rattle.vectors.proofs.Every.{all_at}
 use Rattle.vectors.specs.Vectors.{all}
 use Rattle.lines.specs.Lines.{is_digit, digits_alone, is_number, value_of}
 
@@ -41,14 +41,14 @@ module _ (word : List ℕ) where
   pub number_says : is_number word ≡ true → IsNumber word
   unfolding is_number digits_alone
   number_says e =
-      let ab = and_both (leb 1 (length word) && leb (length word) 5) (digits_alone word) e in
-      let a = and_both (leb 1 (length word)) (leb (length word) 5) ab.0 in
+      let ab = and_parts (leb 1 (length word) && leb (length word) 5) (digits_alone word) e in
+      let a = and_parts (leb 1 (length word)) (leb (length word) 5) ab.0 in
       let digit : (k : ℕ) → k < length word → is_digit (get_or word k 0) ≡ true = λ k h. all_at _ (length word) k ab.1 h in
       record {
         some = leb-true _ _ a.0;
         few = leb-true _ _ a.1;
-        digits_low = λ k h. leb-true _ _ (and_both (leb 48 (get_or word k 0)) _ (digit k h)).0;
-        digits_high = λ k h. leb-true _ _ (and_both (leb 48 (get_or word k 0)) _ (digit k h)).1;
+        digits_low = λ k h. leb-true _ _ (and_parts (leb 48 (get_or word k 0)) _ (digit k h)).0;
+        digits_high = λ k h. leb-true _ _ (and_parts (leb 48 (get_or word k 0)) _ (digit k h)).1;
       }
 
   -- the value of k digits has at most k digits

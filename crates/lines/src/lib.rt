@@ -114,6 +114,7 @@ fn read_arrival(rest: &[u8]) -> Option<Step>
 }
 
 // After the letter r: a seat.
+#[tactic(auto, using(crate::proofs::Grammar::release_is))]
 fn read_release(rest: &[u8]) -> Option<Step>
     ensures { result ≡ read_release (words rest.now) }
 {

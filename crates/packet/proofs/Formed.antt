@@ -7,10 +7,9 @@ use native.Mathlib.Decide.{ℕ_discrete}
 use native.Mathlib.Omega.{arith}
 use native.Mathlib.Nat.{add-zero}
 use lib.ListN.{length, get_or, length-set}
-use borrow.Author.Tests.{le-leb, lt-leb, lt-ltb, eq-eqb, ne_eqb, leb-true, ltb-true, eqb-true}
+use Rattle.std.proofs.lemmas.Bool.{le-leb, lt-leb, lt-ltb, eq-eqb, ne_eqb, leb-true, ltb-true, eqb-true, and_parts}
 use Rattle.answers.specs.declared.SeatNo.{SeatNo}
 use Rattle.vectors.specs.Vectors.{entry, within, same}
-use Rattle.vectors.proofs.Every.{and_both}
 use Rattle.vectors.proofs.Vector.{length_vector}
 use Rattle.vectors.proofs.Tests.{within_at, within_of, same_is, same_of}
 use Rattle.packet.specs.Packet.{version_of, seats_of, sender_of, kind_of, zero_bits_of, body_length_of, past_of, barrier_of, packet_length, head_tests, point_seven, point_eight, less_one, vector_tests, first_failing, head_point, vectors_point, first_bad_point}
@@ -111,12 +110,12 @@ module _ (sender : SeatNo) (past barrier : List ℕ) where
   pub point_seven_lem : point_seven sender past barrier ≡ true
       → ((k : ℕ) → k < 16 → get_or barrier k 0 ≤ get_or past k 0) × (entry barrier sender < entry past sender)
   unfolding point_seven
-  point_seven_lem e = let both = and_both (within barrier past) _ e in (within_at barrier past both.0, ltb-true _ _ both.1)
+  point_seven_lem e = let both = and_parts (within barrier past) _ e in (within_at barrier past both.0, ltb-true _ _ both.1)
 
   module _ (p16 : length past ≡ 16) (b16 : length barrier ≡ 16) where
     pub point_eight_lem : (kind : Kind) → point_eight kind sender past barrier ≡ true → kind ≡ Causal → barrier ≡ less_one past sender
     unfolding point_eight
-    point_eight_lem Ordinary e c = let z : ◌≡◌ {A = ℕ} 0 1 = cc in absurd (omega arith)
+    point_eight_lem Ordinary e c = cc
     point_eight_lem Causal e c = same_is barrier (less_one past sender) b16 (length-set past _ _ ∙ p16) e
 
     pub vectors_have : (kind : Kind) → vectors_point kind sender past barrier ≡ 0 → Ordered kind sender past barrier
@@ -173,10 +172,6 @@ module _ (packet : List ℕ) where
   unfolding first_bad_point head_tests
   bad_vectors z = first_behind 0 (head_tests packet) _ z
 
-  pub formed_of : head_point packet ≡ 0 → vectors_point (kind_of packet) (sender_of packet) (past_of packet) (barrier_of packet) ≡ 0 → Formed packet
-  formed_of a b =
-      record { head = head_has packet a; ordered = vectors_have (sender_of packet) (past_of packet) (barrier_of packet) (length_vector _ _) (length_vector _ _) (kind_of packet) b }
-
   first_good : Dec (head_point packet ≡ 0) → first_bad_point packet ≡ 0 → head_point packet ≡ 0
   first_good (yes z) e = z
   first_good (no f) e = absurd (f (sym (bad_head f) ∙ e))
@@ -184,7 +179,10 @@ module _ (packet : List ℕ) where
   pub formed : first_bad_point packet ≡ 0 → Formed packet
   formed e =
       let z = first_good (ℕ_discrete (head_point packet) 0) e in
-      formed_of z (sym (bad_vectors z) ∙ e)
+      record {
+        head = head_has packet z;
+        ordered = vectors_have (sender_of packet) (past_of packet) (barrier_of packet) (length_vector _ _) (length_vector _ _) (kind_of packet) (sym (bad_vectors z) ∙ e);
+      }
 
   pub well : Formed packet → first_bad_point packet ≡ 0
   well f =

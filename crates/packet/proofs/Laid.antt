@@ -11,7 +11,6 @@ use lib.Dec.{ltb}
 use borrow.Author.Tests.{lt-ltb, le-ltb, ltb-false}
 use Rattle.answers.specs.Answers.{first_of}
 use Rattle.answers.specs.declared.Edit.{Edit}
-use Rattle.answers.specs.declared.Refusal.{Refusal}
 use Rattle.answers.specs.declared.Answer.TheVariants.{Done, Refused}
 use Rattle.answers.specs.declared.Refusal.TheVariants.{BodyTooLong, NotWellFormed, OutputTooShort}
 use Rattle.vectors.specs.Bytes.{fields_of}
@@ -94,15 +93,12 @@ module _ (kind : Kind) (header : Header) (past barrier body : List ℕ) where
 
 -- ---- what an answer tells
 
-no_clash : (edit : Edit) (refusal : Refusal) → Refused refusal ≡ Done edit → ⊥
-no_clash edit refusal e = let z : ◌≡◌ {A = ℕ} 0 1 = cc in omega arith
-
 done_tests : (long good full : Bool) (edit told : Edit) → first_of ((BodyTooLong, long) ∷ (NotWellFormed, not good) ∷ (OutputTooShort, full) ∷ []) (Done edit) ≡ Done told
     → (long ≡ false) × (good ≡ true) × (full ≡ false) × (told ≡ edit)
 unfolding first_of
-done_tests true good full edit told e = absurd (no_clash told BodyTooLong e)
-done_tests false false full edit told e = absurd (no_clash told NotWellFormed e)
-done_tests false true true edit told e = absurd (no_clash told OutputTooShort e)
+done_tests true good full edit told e = absurd cc
+done_tests false false full edit told e = absurd cc
+done_tests false true true edit told e = absurd cc
 done_tests false true false edit told e = (refl, refl, refl, cc)
 
 -- a write that was done

@@ -7,16 +7,16 @@ use native.Mathlib.Decide.{ℕ_discrete}
 use native.Mathlib.Omega.{arith}
 use lib.ListN.{length, drop}
 use borrow.Author.Tests.{eq-eqb, ne_eqb}
-use Rattle.std.specs.Prelude.{Result, Ok, Err}
+use Rattle.std.specs.Prelude.{Result, Ok}
 use Rattle.answers.specs.declared.Refusal.{Refusal}
 use Rattle.vectors.specs.Vectors.{zero_above}
 use Rattle.vectors.proofs.Vector.{length_vector}
 use Rattle.vectors.proofs.Tests.{zero_above_vector}
-use Rattle.packet.specs.Packet.{seats_of, sender_of, kind_of, body_length_of, past_of, barrier_of, body_at, packet_length, head_point, vectors_point, first_bad_point}
+use Rattle.packet.specs.Packet.{seats_of, sender_of, kind_of, body_length_of, past_of, barrier_of, body_at, packet_length, first_bad_point}
 use Rattle.packet.specs.Reading.{refused, message, header_of, headed, read_of, body_of}
 use Rattle.packet.specs.declared.Heading.{Heading}
 use Rattle.packet.specs.declared.Reading.{Reading}
-use Rattle.packet.proofs.Formed.{Ordered, formed, bad_head, bad_vectors}
+use Rattle.packet.proofs.Formed.{Ordered, formed}
 
 -- ---- each case
 
@@ -36,12 +36,6 @@ module _ (packet : List ℕ) where
   pub body_refused : (first_bad_point packet ≡ 0 → ⊥) → body_of packet ≡ []
   unfolding body_of
   body_refused h = simp (ne_eqb _ _ h)
-
-  pub head_refused : (head_point packet ≡ 0 → ⊥) → read_of packet ≡ refused
-  head_refused h = read_refused (λ e. h (sym (bad_head packet h) ∙ e))
-
-  pub vectors_refused : head_point packet ≡ 0 → (vectors_point (kind_of packet) (sender_of packet) (past_of packet) (barrier_of packet) ≡ 0 → ⊥) → read_of packet ≡ refused
-  vectors_refused z h = read_refused (λ e. h (sym (bad_vectors packet z) ∙ e))
 
 -- ---- once the answer is matched on
 
@@ -94,23 +88,16 @@ told_of packet z =
       ordered = f.ordered;
     }
 
-clash : (heading : Heading) (refusal : Refusal) → ◌≡◌ {A = Result Heading Refusal} (Ok heading) (Err refusal) → ⊥
-clash heading refusal e = let z : ◌≡◌ {A = ℕ} 0 1 = cc in omega arith
-
-module _ (packet : List ℕ) (reading : Reading) (is : reading ≡ read_of packet) where
-  pub told : (heading : Heading) → reading.answer ≡ Ok heading → Told packet reading heading
-  told heading answered =
-      elim (ℕ_discrete (first_bad_point packet) 0) [
-        | yes z ↦
-            (let good = is ∙ read_formed packet z in
-            let same : ◌≡◌ {A = Result Heading Refusal} (Ok heading) (Ok (headed (kind_of packet) (header_of packet))) = sym answered ∙ ap (λ (r : Reading). r.answer) good in
-            let same_heading : heading ≡ headed (kind_of packet) (header_of packet) = cc in
-            rw (same_heading, good) (told_of packet z))
-        | no bad ↦ absurd (clash heading _ (sym answered ∙ ap (λ (r : Reading). r.answer) (is ∙ read_refused packet bad)))
-      ]
-
-  pub told_refused : (refusal : Refusal) → reading.answer ≡ Err refusal → first_bad_point packet ≡ 0 → ⊥
-  told_refused refusal answered z = clash _ _ (sym (ap (λ (r : Reading). r.answer) (is ∙ read_formed packet z)) ∙ answered)
+pub told : (packet : List ℕ) (reading : Reading) → reading ≡ read_of packet → (heading : Heading) → reading.answer ≡ Ok heading → Told packet reading heading
+told packet reading is heading answered =
+    elim (ℕ_discrete (first_bad_point packet) 0) [
+      | yes z ↦
+          (let good = is ∙ read_formed packet z in
+          let same : ◌≡◌ {A = Result Heading Refusal} (Ok heading) (Ok (headed (kind_of packet) (header_of packet))) = sym answered ∙ ap (λ (r : Reading). r.answer) good in
+          let same_heading : heading ≡ headed (kind_of packet) (header_of packet) = cc in
+          rw (same_heading, good) (told_of packet z))
+      | no bad ↦ (let clash : ◌≡◌ {A = Result Heading Refusal} (Ok heading) refused.answer = sym answered ∙ ap (λ (r : Reading). r.answer) (is ∙ read_refused packet bad) in cc)
+    ]
 
 -- ---- a message that was read
 

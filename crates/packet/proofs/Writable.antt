@@ -4,9 +4,8 @@ use mathlib.Core.Path.{◌≡◌}
 use mathlib.Core.Bool.{true, ◌&&◌}
 use mathlib.Core.List.{List}
 use lib.Dec.{leb, eqb}
-use borrow.Author.Tests.{le-leb, leb-true, eqb-true, eq-eqb}
+use Rattle.std.proofs.lemmas.Bool.{le-leb, leb-true, eqb-true, eq-eqb, and_parts}
 use Rattle.vectors.specs.Vectors.{zero_above}
-use Rattle.vectors.proofs.Every.{and_both}
 use Rattle.packet.specs.Packet.{vectors_point}
 use Rattle.packet.specs.Writing.{in_range, writable}
 use Rattle.packet.specs.declared.Kind.{Kind}
@@ -22,9 +21,9 @@ module _ (header : Header) where
   pub is_in_range : in_range header ≡ true → InRange header
   unfolding in_range
   is_in_range e =
-      let abc = and_both (leb 1 header.n && leb header.n 16 && leb 1 header.sender.0) (leb header.sender.0 header.n) e in
-      let ab = and_both (leb 1 header.n && leb header.n 16) (leb 1 header.sender.0) abc.0 in
-      let a = and_both (leb 1 header.n) (leb header.n 16) ab.0 in
+      let abc = and_parts (leb 1 header.n && leb header.n 16 && leb 1 header.sender.0) (leb header.sender.0 header.n) e in
+      let ab = and_parts (leb 1 header.n && leb header.n 16) (leb 1 header.sender.0) abc.0 in
+      let a = and_parts (leb 1 header.n) (leb header.n 16) ab.0 in
       record {
         seats_low = leb-true _ _ a.0;
         seats_high = leb-true _ _ a.1;
@@ -48,9 +47,9 @@ module _ (kind : Kind) (header : Header) (past barrier : List ℕ) where
   pub can_be_written : writable kind header past barrier ≡ true → Writable kind header past barrier
   unfolding writable
   can_be_written e =
-      let abc = and_both (in_range header && eqb (vectors_point kind header.sender past barrier) 0) (zero_above header.n past && zero_above header.n barrier) e in
-      let ab = and_both (in_range header) (eqb (vectors_point kind header.sender past barrier) 0) abc.0 in
-      let c = and_both (zero_above header.n past) (zero_above header.n barrier) abc.1 in
+      let abc = and_parts (in_range header && eqb (vectors_point kind header.sender past barrier) 0) (zero_above header.n past && zero_above header.n barrier) e in
+      let ab = and_parts (in_range header) (eqb (vectors_point kind header.sender past barrier) 0) abc.0 in
+      let c = and_parts (zero_above header.n past) (zero_above header.n barrier) abc.1 in
       record { range = ab.0; points = eqb-true _ _ ab.1; past_zero = c.0; barrier_zero = c.1 }
 
   pub writable_holds : Writable kind header past barrier → writable kind header past barrier ≡ true

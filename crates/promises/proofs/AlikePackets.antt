@@ -2,15 +2,14 @@
 use Prim.Native.Nat.{ℕ, ◌+◌, ◌*◌, ◌-◌, ◌/◌, ◌%◌, ◌<◌}
 use mathlib.Core.Path.{◌≡◌, refl, sym, ap, ◌∙◌}
 use mathlib.Core.List.{List, [], ◌∷◌, ◌++◌}
-use native.Mathlib.Decide.{dec_lt, ℕ_discrete}
+use native.Mathlib.Decide.{ℕ_discrete}
 use native.Mathlib.Omega.{arith}
 use lib.Dec.{leb, eqb}
 use lib.ListN.{length, get_or}
-use lib.Seq.{ext_get_or}
 use Rattle.answers.specs.Answers.{seat_no}
 use Rattle.vectors.specs.Vectors.{vector}
 use Rattle.vectors.specs.Bytes.{number_at}
-use Rattle.vectors.proofs.Vector.{length_vector, vector_below, vector_above}
+use Rattle.vectors.proofs.Vector.{length_vector, vector_below, vector_above, is_vector}
 use Rattle.vectors.proofs.Numbers.{two_bytes}
 use Rattle.packet.specs.Packet.{seats_of, sender_of, kind_of, kind_bit, past_of, barrier_of, body_at, packet_length, head_tests, vector_tests, first_failing, first_bad_point}
 use Rattle.packet.specs.Reading.{message, read_of, body_of}
@@ -22,14 +21,7 @@ use Rattle.promises.specs.BodyUnread.{Alike}
 
 -- vectors of the same fields are the same
 same_vector : (n : ℕ) (f g : ℕ → ℕ) → ((k : ℕ) → k < n → f k ≡ g k) → vector n f ≡ vector n g
-same_vector n f g each =
-    ext_get_or 0 (vector n f) (vector n g) (length_vector n f ∙ sym (length_vector n g))
-    (λ k inside.
-    let low : k < 16 = omega (arith, length_vector n f) in
-    elim (dec_lt k n) [
-      | yes below ↦ vector_below n f k below low ∙ each k below ∙ sym (vector_below n g k below low)
-      | no above ↦ vector_above n f k (omega arith) low ∙ sym (vector_above n g k (omega arith) low)
-    ])
+same_vector n f g each = is_vector n g (vector n f) (length_vector n f) (λ k below low. vector_below n f k below low ∙ each k below) (vector_above n f)
 
 same_field : (one other : List ℕ) (i : ℕ) → get_or one i 0 ≡ get_or other i 0 → get_or one (i + 1) 0 ≡ get_or other (i + 1) 0 → number_at 2 one i ≡ number_at 2 other i
 same_field one other i high low = sym (two_bytes one i) ∙ (λ j. high j * 256 + low j) ∙ two_bytes other i

@@ -1,17 +1,16 @@
 -- On shelves that are alike but for bodies the tests say the same, and the same slots are free and chosen.
 use Prim.Native.Nat.{ℕ, zero, suc, ◌/◌, ◌%◌, ◌≤◌, ◌<◌}
-use mathlib.Core.Path.{◌≡◌, refl, sym, ap, ◌∙◌}
-use mathlib.Core.Bool.{Bool, true, false, cond, not, ◌&&◌, ◌||◌, true≢false}
+use mathlib.Core.Path.{◌≡◌, refl, ap, ap₂, ◌∙◌}
+use mathlib.Core.Bool.{Bool, true, false, cond, not, ◌&&◌, ◌||◌}
 use mathlib.Core.List.{List}
 use native.Mathlib.Omega.{arith}
 use lib.Dec.{leb, ltb, eqb}
+use Rattle.std.proofs.lemmas.Bool.{not-true, not-false}
 use Rattle.answers.specs.declared.SeatNo.{SeatNo}
-use Rattle.vectors.specs.Vectors.{all}
-use Rattle.packet.specs.Packet.{sender_of, barrier_of}
-use Rattle.packet.specs.Reading.{read_of}
+use Rattle.vectors.proofs.Every.{all_same}
 use Rattle.shelf.specs.Shelf.{slot_size, slots, whole_slots, is_free, lowest, lowest_free}
 use Rattle.seat.specs.State.{sound_state}
-use Rattle.seat.specs.Stock.{packet_at, number_of, passes, sound_slot, is_edit, on_slots, on_shelf, distinct, sound_slots, sound_shelf}
+use Rattle.seat.specs.Stock.{packet_at, passes, is_edit, on_slots, on_shelf, distinct, sound_slots, sound_shelf}
 use Rattle.seat.specs.HandingOver.{ready}
 use Rattle.seat.specs.Arriving.{sound_both}
 use Rattle.seat.specs.Releasing.{ready_at, no_later, comes_first, chosen}
@@ -30,24 +29,11 @@ and_same : (a b c d : Bool) → a ≡ b → (a ≡ true → c ≡ d) → (a && c
 and_same true b c d e same = same refl ∙ ap (λ (x : Bool). x && d) e
 and_same false b c d e same = ap (λ (x : Bool). x && d) e
 
-all_same : (n : ℕ) (f g : ℕ → Bool) → ((k : ℕ) → k < n → f k ≡ g k) → all n f ≡ all n g
-unfolding all
-all_same zero f g each = refl
-all_same (suc n) f g each = λ i. all_same n f g (λ k h. each k (omega arith)) i && each n (omega arith) i
-
 lowest_same : (n : ℕ) (f g : ℕ → Bool) → ((k : ℕ) → k < n → f k ≡ g k) → lowest n f ≡ lowest n g
 unfolding lowest
 lowest_same zero f g each = refl
 lowest_same (suc n) f g each =
     λ i. cond (each 0 (omega arith) i) 0 (suc (lowest_same n (λ k. f (suc k)) (λ k. g (suc k)) (λ k h. each (suc k) (omega arith)) i))
-
-not_false : (a : Bool) → not a ≡ false → a ≡ true
-not_false true e = refl
-not_false false e = absurd (true≢false e)
-
-not_true : (a : Bool) → not a ≡ true → a ≡ false
-not_true true e = absurd (true≢false (sym e))
-not_true false e = refl
 
 -- ---- shelves
 
@@ -66,19 +52,14 @@ module _ (one other : List ℕ) (alike : AlikeShelves one other) where
       → is_edit (packet_at one i) sender number ≡ is_edit (packet_at other i) sender number
   unfolding is_edit
   same_is_edit i there used sender number =
-      λ j.
-      eqb (same_sender (packet_at one i) (packet_at other i) (packets i there used) j).0 sender.0
-      && eqb (same_number (packet_at one i) (packet_at other i) (packets i there used) j) number
+      let p = packets i there used in λ j. eqb (same_sender _ _ p j).0 sender.0 && eqb (same_number _ _ p j) number
 
   same_on_slots : (n : ℕ) → n ≤ slots one → (sender : SeatNo) (number : ℕ) → on_slots n one sender number ≡ on_slots n other sender number
   unfolding on_slots
   same_on_slots n most sender number =
       ap not
-      (all_same n (λ i. is_free one i || not (is_edit (packet_at one i) sender number)) (λ i. is_free other i || not (is_edit (packet_at other i) sender number))
-      (λ i below.
-      let there : i < slots one = omega arith in
-      or_same (is_free one i) (is_free other i) (not (is_edit (packet_at one i) sender number)) (not (is_edit (packet_at other i) sender number)) (alike.same_free i there)
-      (λ used. ap not (same_is_edit i there used sender number))))
+      (all_same n _ _ (λ i below.
+      let there : i < slots one = omega arith in or_same _ _ _ _ (alike.same_free i there) (λ used. ap not (same_is_edit i there used sender number))))
 
   pub same_on_shelf : (sender : SeatNo) (number : ℕ) → on_shelf one sender number ≡ on_shelf other sender number
   same_on_shelf sender number = same_on_slots (slots one) (omega arith) sender number ∙ ap (λ (n : ℕ). on_slots n other sender number) same_slots
@@ -90,24 +71,9 @@ module _ (one other : List ℕ) (alike : AlikeShelves one other) where
     same_sound_slots : sound_slots (slots one) seat one ≡ sound_slots (slots one) seat other
     unfolding sound_slots distinct
     same_sound_slots =
-        λ i.
-        all_same (slots one) (sound_slot seat one) (sound_slot seat other)
-        (λ k there.
-        or_same (is_free one k) (is_free other k) (passes seat (read_of (packet_at one k))) (passes seat (read_of (packet_at other k))) (alike.same_free k there)
-        (λ used. ap (passes seat) (same_reading (packet_at one k) (packet_at other k) (packets k there used))))
-        i
-        && all_same (slots one) (λ j. is_free one j || not (on_slots j one (sender_of (packet_at one j)) (number_of (packet_at one j))))
-        (λ j. is_free other j || not (on_slots j other (sender_of (packet_at other j)) (number_of (packet_at other j))))
-        (λ j there.
-        or_same (is_free one j) (is_free other j) (not (on_slots j one (sender_of (packet_at one j)) (number_of (packet_at one j))))
-        (not (on_slots j other (sender_of (packet_at other j)) (number_of (packet_at other j)))) (alike.same_free j there)
-        (λ used.
-        ap not
-        (same_on_slots j (omega arith) (sender_of (packet_at one j)) (number_of (packet_at one j))
-        ∙ (λ d.
-        on_slots j other (same_sender (packet_at one j) (packet_at other j) (packets j there used) d)
-        (same_number (packet_at one j) (packet_at other j) (packets j there used) d)))))
-        i
+        ap₂ ◌&&◌ (all_same _ _ _ (λ k there. or_same _ _ _ _ (alike.same_free k there) (λ used. ap (passes seat) (same_reading _ _ (packets k there used)))))
+        (all_same _ _ _ (λ j there. or_same _ _ _ _ (alike.same_free j there) (λ used.
+        let p = packets j there used in ap not (same_on_slots j (omega arith) _ _ ∙ (λ d. on_slots j other (same_sender _ _ p d) (same_number _ _ p d))))))
 
     pub same_sound : sound_both seat one ≡ sound_both seat other
     unfolding sound_shelf
@@ -117,9 +83,7 @@ module _ (one other : List ℕ) (alike : AlikeShelves one other) where
     same_ready_at : (i : ℕ) → i < slots one → ready_at seat one i ≡ ready_at seat other i
     unfolding ready_at
     same_ready_at i there =
-        and_same (not (is_free one i)) (not (is_free other i)) (ready seat (barrier_of (packet_at one i))) (ready seat (barrier_of (packet_at other i)))
-        (ap not (alike.same_free i there))
-        (λ used. ap (ready seat) (same_barrier (packet_at one i) (packet_at other i) (packets i there (not_true (is_free one i) used))))
+        and_same _ _ _ _ (ap not (alike.same_free i there)) (λ used. ap (ready seat) (same_barrier _ _ (packets i there (not-true _ used))))
 
     same_no_later : (i j : ℕ) → i < slots one → j < slots one → is_free one i ≡ false → is_free one j ≡ false
         → no_later (packet_at one i) (packet_at one j) ≡ no_later (packet_at other i) (packet_at other j)
@@ -128,24 +92,19 @@ module _ (one other : List ℕ) (alike : AlikeShelves one other) where
         let p = packets i there used in
         let q = packets j here also in
         λ d.
-        ltb (same_sender (packet_at one i) (packet_at other i) p d).0 (same_sender (packet_at one j) (packet_at other j) q d).0
-        || (eqb (same_sender (packet_at one i) (packet_at other i) p d).0 (same_sender (packet_at one j) (packet_at other j) q d).0
-        && leb (same_number (packet_at one i) (packet_at other i) p d) (same_number (packet_at one j) (packet_at other j) q d))
+        ltb (same_sender _ _ p d).0 (same_sender _ _ q d).0
+        || (eqb (same_sender _ _ p d).0 (same_sender _ _ q d).0 && leb (same_number _ _ p d) (same_number _ _ q d))
 
     same_comes_first : (i : ℕ) → i < slots one → comes_first (slots one) seat one i ≡ comes_first (slots one) seat other i
     unfolding comes_first
     same_comes_first i there =
-        and_same (ready_at seat one i) (ready_at seat other i) _ _ (same_ready_at i there)
+        and_same _ _ _ _ (same_ready_at i there)
         (λ is.
-        all_same (slots one) (λ j. not (ready_at seat one j) || no_later (packet_at one i) (packet_at one j))
-        (λ j. not (ready_at seat other j) || no_later (packet_at other i) (packet_at other j))
-        (λ j here.
-        or_same (not (ready_at seat one j)) (not (ready_at seat other j)) (no_later (packet_at one i) (packet_at one j)) (no_later (packet_at other i) (packet_at other j))
-        (ap not (same_ready_at j here))
-        (λ also. same_no_later i j there here (ready_slot_is_used seat one i is) (ready_slot_is_used seat one j (not_false (ready_at seat one j) also)))))
+        all_same _ _ _ (λ j here.
+        or_same _ _ _ _ (ap not (same_ready_at j here))
+        (λ also. same_no_later i j there here (ready_slot_is_used seat one i is) (ready_slot_is_used seat one j (not-false _ also)))))
 
     pub same_chosen : chosen seat one ≡ chosen seat other
     unfolding chosen
     same_chosen =
-        lowest_same (slots one) (comes_first (slots one) seat one) (comes_first (slots one) seat other) same_comes_first
-        ∙ ap (λ (n : ℕ). lowest n (comes_first n seat other)) same_slots
+        lowest_same (slots one) _ _ same_comes_first ∙ ap (λ (n : ℕ). lowest n (comes_first n seat other)) same_slots

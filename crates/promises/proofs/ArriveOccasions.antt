@@ -1,6 +1,6 @@
 -- The occasion of each answer of an arrival.
 use Prim.Native.Nat.{ℕ, ◌+◌, ◌<◌}
-use mathlib.Core.Path.{◌≡◌, refl, sym, ap, subst, ◌∙◌}
+use mathlib.Core.Path.{◌≡◌, sym, ap, subst, ◌∙◌}
 use mathlib.Core.Logic.{inl, inr}
 use mathlib.Core.List.{List, [], ◌∷◌}
 use native.Mathlib.Decide.{dec_lt, ℕ_discrete}
@@ -115,15 +115,15 @@ module _ (seat : Seat) (shelf packet : List ℕ) where
   by_shelf : Admitted seat shelf packet → (Ready seat packet → ⊥) → occasion (answer_number answer)
   by_shelf a waits =
       elim (free_or_full shelf) [
-        | inl free ↦ subst occasion (sym (ap answer_number (waiting_arrival_is_shelved a waits free))) (a, waits, free)
-        | inr full ↦ let none = full_has_no_free_slot shelf full in subst occasion (sym (ap answer_number (gives_19 a waits none))) (a, waits, none)
+        | inl free ↦ rw (waiting_arrival_is_shelved a waits free) (a, waits, free)
+        | inr full ↦ let none = full_has_no_free_slot shelf full in rw (gives_19 a waits none) (a, waits, none)
       ]
 
   by_barrier : Admitted seat shelf packet → Ready seat packet → occasion (answer_number answer)
   by_barrier a ready =
       elim (stays_decided seat packet) [
-        | inl stays ↦ subst occasion (sym (ap answer_number (ready_arrival_is_done a ready stays))) (a, ready, stays)
-        | inr leaves ↦ subst occasion (sym (ap answer_number (gives_23 a ready leaves))) (a, ready, leaves)
+        | inl stays ↦ rw (ready_arrival_is_done a ready stays) (a, ready, stays)
+        | inr leaves ↦ rw (gives_23 a ready leaves) (a, ready, leaves)
       ]
 
   by_ready : Admitted seat shelf packet → occasion (answer_number answer)
@@ -133,10 +133,10 @@ module _ (seat : Seat) (shelf packet : List ℕ) where
     by_number : SameSession seat packet → WithinOwnCount seat packet → occasion (answer_number answer)
     by_number same own =
         elim (decided _ (repeats_agrees seat shelf packet)) [
-          | inl again ↦ subst occasion (sym (ap answer_number (gives_17 sound well same own again))) (sound, well, same, own, again)
+          | inl again ↦ rw (gives_17 sound well same own again) (sound, well, same, own, again)
           | inr is_new ↦ elim (dec_lt (entry seat.run (sender_of packet) + 64) (number_of packet)) [
             | yes far ↦ let never : Near seat packet → ⊥ = λ near. omega arith in
-                subst occasion (sym (ap answer_number (gives_18 sound well same own is_new never))) (sound, well, same, own, is_new, never)
+                rw (gives_18 sound well same own is_new never) (sound, well, same, own, is_new, never)
             | no less ↦ by_ready (record { sound = sound; is_well_formed = well; same_session = same; within_own_count = own; is_new = is_new; near = omega arith })
           ]
         ]
@@ -145,7 +145,7 @@ module _ (seat : Seat) (shelf packet : List ℕ) where
     by_count same =
         elim (dec_lt (own_count seat) (entry (past_of packet) seat.own)) [
           | yes more ↦ let above : WithinOwnCount seat packet → ⊥ = λ own. omega arith in
-              subst occasion (sym (ap answer_number (gives_16 sound well same above))) (sound, well, same, above)
+              rw (gives_16 sound well same above) (sound, well, same, above)
           | no less ↦ by_number same (omega arith)
         ]
 
@@ -153,15 +153,15 @@ module _ (seat : Seat) (shelf packet : List ℕ) where
     by_session =
         elim (ℕ_discrete (seats_of packet) seat.n) [
           | yes same ↦ by_count same
-          | no other ↦ subst occasion (sym (ap answer_number (gives_15 sound well other))) (sound, well, other)
+          | no other ↦ rw (gives_15 sound well other) (sound, well, other)
         ]
 
   by_form : Sound seat shelf → occasion (answer_number answer)
   by_form sound =
-      elim (decided _ (well_formed_agrees packet)) [ inl well ↦ by_session sound well | inr bad ↦ subst occasion (sym (ap answer_number (gives_14 sound bad))) (sound, bad) ]
+      elim (decided _ (well_formed_agrees packet)) [ inl well ↦ by_session sound well | inr bad ↦ rw (gives_14 sound bad) (sound, bad) ]
 
   tells : occasion (answer_number answer)
-  tells = elim (decided _ (sound_agrees seat shelf)) [ inl sound ↦ by_form sound | inr bad ↦ subst occasion (sym (ap answer_number (gives_10 bad))) bad ]
+  tells = elim (decided _ (sound_agrees seat shelf)) [ inl sound ↦ by_form sound | inr bad ↦ rw (gives_10 bad) bad ]
 
   pub arrive_occasions : ArriveAnswers seat shelf packet
   arrive_occasions =

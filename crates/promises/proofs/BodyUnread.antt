@@ -125,21 +125,21 @@ arrival_by_parts seat shelf packet = refl
 module _ (seat : Seat) (packet other shelf shelf_other : List ℕ) (alike : Alike packet other) (shelves : AlikeShelves shelf shelf_other) where
   same_repeats : repeats seat shelf packet ≡ repeats seat shelf_other other
   same_repeats =
-      (λ i. is_handed seat (same_sender packet other alike i) (same_number packet other alike i) || on_shelf shelf (same_sender packet other alike i) (same_number packet other alike i))
-      ∙ ap (λ (on : Bool). is_handed seat (sender_of other) (number_of other) || on) (same_on_shelf shelf shelf_other shelves (sender_of other) (number_of other))
+      (λ i. is_handed seat (same_sender _ _ alike i) (same_number _ _ alike i) || on_shelf shelf (same_sender _ _ alike i) (same_number _ _ alike i))
+      ∙ ap (λ (on : Bool). is_handed seat (sender_of other) (number_of other) || on) (same_on_shelf _ _ shelves (sender_of other) (number_of other))
 
   same_arrival : arrive_answer seat shelf packet ≡ arrive_answer seat shelf_other other
   same_arrival =
       arrival_by_parts seat shelf packet
       ∙ (λ i.
-      arrival_by seat (same_sound shelf shelf_other shelves seat i) (same_point packet other alike i) (same_heading packet other alike i) (same_past packet other alike i)
-      (same_barrier packet other alike i) (same_repeats i) (same_lowest_free shelf shelf_other shelves i) (same_slots shelf shelf_other shelves i)
-      (same_edit packet other alike i))
+      arrival_by seat (same_sound _ _ shelves seat i) (same_point _ _ alike i) (same_heading _ _ alike i) (same_past _ _ alike i)
+      (same_barrier _ _ alike i) (same_repeats i) (same_lowest_free _ _ shelves i) (same_slots _ _ shelves i)
+      (same_edit _ _ alike i))
       ∙ sym (arrival_by_parts seat shelf_other other)
 
   shelves_same : (answer : Answer)
       → SameSlotChanges shelf shelf_other (shelf_after answer packet shelf) (shelf_after answer other shelf_other) (lowest_free shelf) (slot_of packet) (slot_of other)
-  shelves_same Shelved = inr (refl, rw (same_lowest_free shelf shelf_other shelves))
+  shelves_same Shelved = inr (refl, rw (same_lowest_free _ _ shelves))
   shelves_same Opened = inl (refl, refl)
   shelves_same (Done edit) = inl (refl, refl)
   shelves_same NothingReady = inl (refl, refl)
@@ -150,7 +150,7 @@ module _ (seat : Seat) (packet other shelf shelf_other : List ℕ) (alike : Alik
   arrived_same stepped stepped_other after after_other a b = (
     same_step stepped stepped_other
         (a.next
-        ∙ (λ i. seat_after (same_arrival i) (hand_over seat (same_heading packet other alike i) (same_past packet other alike i) (same_barrier packet other alike i)) seat)
+        ∙ (λ i. seat_after (same_arrival i) (hand_over seat (same_heading _ _ alike i) (same_past _ _ alike i) (same_barrier _ _ alike i)) seat)
         ∙ sym b.next)
         (a.answered ∙ same_arrival ∙ sym b.answered),
     (lowest_free shelf, rw (a.shelf_after_is, b.shelf_after_is, ← same_arrival) (shelves_same (arrive_answer seat shelf packet))),
@@ -183,19 +183,15 @@ module _ (seat : Seat) (shelf shelf_other out : List ℕ) (shelves : AlikeShelve
 
   same_taking : at < slots shelf → taking_of seat out (packet_at shelf at) ≡ taking_of seat out (packet_at shelf_other (chosen seat shelf_other))
   same_taking there =
-      let one = packet_at shelf at in
-      let other = packet_at shelf_other at in
       let alike = taken_alike there in
-      (λ i.
-      taking_by seat out (same_body_length one other alike i) (same_heading one other alike i) (same_past one other alike i) (same_barrier one other alike i)
-      (same_edit one other alike i))
-      ∙ ap (λ (k : ℕ). taking_of seat out (packet_at shelf_other k)) (same_chosen shelf shelf_other shelves seat)
+      (λ i. taking_by seat out (same_body_length _ _ alike i) (same_heading _ _ alike i) (same_past _ _ alike i) (same_barrier _ _ alike i) (same_edit _ _ alike i))
+      ∙ ap (λ (k : ℕ). taking_of seat out (packet_at shelf_other k)) (same_chosen _ _ shelves seat)
 
   same_release : release_answer seat shelf out ≡ release_answer seat shelf_other out
   same_release =
-      let sound = same_sound shelf shelf_other shelves seat in
-      let here = same_chosen shelf shelf_other shelves seat in
-      let count = same_slots shelf shelf_other shelves in
+      let sound = same_sound _ _ shelves seat in
+      let here = same_chosen _ _ shelves seat in
+      let count = same_slots _ _ shelves in
       elim (dec_lt at (slots shelf)) [
         | yes there ↦ release_by_parts seat shelf out ∙ (λ i. release_by (sound i) (here i) (count i) (same_taking there i)) ∙ sym (release_by_parts seat shelf_other out)
         | no more ↦ let none : at ≡ slots shelf = omega (arith, chosen_is_at_most_slots seat shelf) in
@@ -208,7 +204,7 @@ module _ (seat : Seat) (shelf shelf_other out : List ℕ) (shelves : AlikeShelve
 
   shelves_left_same : (answer : Answer)
       → SameSlotChanges shelf shelf_other (shelf_after_release answer seat shelf) (shelf_after_release answer seat shelf_other) at free_slot free_slot
-  shelves_left_same (Done edit) = inr (refl, rw (same_chosen shelf shelf_other shelves seat))
+  shelves_left_same (Done edit) = inr (refl, rw (same_chosen _ _ shelves seat))
   shelves_left_same Opened = inl (refl, refl)
   shelves_left_same Shelved = inl (refl, refl)
   shelves_left_same NothingReady = inl (refl, refl)
@@ -240,10 +236,8 @@ module _ (seat : Seat) (shelf shelf_other out : List ℕ) (shelves : AlikeShelve
       → seat_after answer (hand_over seat (heading_of (packet_at shelf at)) (past_of (packet_at shelf at)) (barrier_of (packet_at shelf at))) seat
       ≡ seat_after answer (hand_over seat (heading_of (packet_at shelf_other at)) (past_of (packet_at shelf_other at)) (barrier_of (packet_at shelf_other at))) seat
   next_same (Done edit) is =
-      let one = packet_at shelf at in
-      let other = packet_at shelf_other at in
       let alike = taken_alike (done_is_there (ap answer_number is)) in
-      (λ i. hand_over seat (same_heading one other alike i) (same_past one other alike i) (same_barrier one other alike i))
+      (λ i. hand_over seat (same_heading _ _ alike i) (same_past _ _ alike i) (same_barrier _ _ alike i))
   next_same Opened is = refl
   next_same Shelved is = refl
   next_same NothingReady is = refl
@@ -256,7 +250,7 @@ module _ (seat : Seat) (shelf shelf_other out : List ℕ) (shelves : AlikeShelve
       × SameButFor (body_of (packet_at shelf i)) (body_of (packet_at shelf_other i)) out_left out_other)
   released_same stepped stepped_other left left_other out_left out_other r q =
       let answer = release_answer seat shelf out in
-      let here = same_chosen shelf shelf_other shelves seat in
+      let here = same_chosen _ _ shelves seat in
       let next_other : stepped_other.seat
       ≡ seat_after answer (hand_over seat (heading_of (packet_at shelf_other at)) (past_of (packet_at shelf_other at)) (barrier_of (packet_at shelf_other at))) seat =
       rw (← same_release, ← here) at q.next in
@@ -271,7 +265,7 @@ body_unread =
     record {
       writing = λ kind header past barrier body other out answer answer_other after after_other same.
           written_same kind header past barrier body other out same answer answer_other after after_other;
-      reading = λ packet other alike. (same_reading packet other alike, same_body_length packet other alike);
+      reading = λ packet other alike. (same_reading _ _ alike, same_body_length _ _ alike);
       sending = λ seat wish body other out stepped stepped_other after after_other same. sent_same seat wish body other out same stepped stepped_other after after_other;
       arriving = λ seat packet other shelf shelf_other stepped stepped_other after after_other alike shelves.
           arrived_same seat packet other shelf shelf_other alike shelves stepped stepped_other after after_other;

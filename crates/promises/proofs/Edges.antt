@@ -6,8 +6,6 @@ use mathlib.Core.List.{List, []}
 use native.Mathlib.Omega.{arith}
 use lib.ListN.{length}
 use Rattle.answers.specs.Answers.{seat_no, first_of}
-use Rattle.answers.specs.declared.Refusal.TheVariants.{NotWellFormed}
-use Rattle.answers.specs.declared.Answer.TheVariants.{Refused}
 use Rattle.vectors.specs.Vectors.{all, table, vector, within, same, zero_above, maxes}
 use Rattle.vectors.specs.Bytes.{number_at, bytes_of, fields_of}
 use Rattle.window.specs.Window.{bit, handed, none_above, sound_window, marked, trailing_ones, advanced, handed_over}

@@ -1,7 +1,7 @@
 -- What a session leaves, carried from step to step: a run of the protocol of source document 000, sound places, and
 -- packets that are what their sends reported.
 use Prim.Native.Nat.{ℕ}
-use mathlib.Core.Path.{◌≡◌, sym, ap, subst, ◌∙◌}
+use mathlib.Core.Path.{◌≡◌, refl, sym, ap, subst, ◌∙◌}
 use mathlib.Core.List.Memᴰ
 use mathlib.Core.List.{List, [], ◌∷◌}
 use Rattle.answers.specs.declared.SeatNo.{SeatNo}
@@ -63,8 +63,11 @@ module _ {n : ℕ} {places : ℕ → Place} {letters : List Letter} {trace : Tra
       each_seat model (λ i a. Seated n i → WellPlaced i a) (turn_of j place places (λ before after. Unit {0}) tt)
       (λ _. subst (WellPlaced j) (sym (moved_here j place places)) well) (λ i away s. so_far.placed i s)
 
+  -- a step that goes on to another place, and sends nothing
+  pub moves : {after : Trace} (next : Seat) (left : List ℕ) → SoundPlace next left → next.own ≡ (places j).seat.own → Run model n (place_with next left) (packets_of letters) after
+      → Goes n (place_with next left) letters after
+  moves next left sound same run = record { run = run; placed = placed_after next left sound same; posted = so_far.posted }
+
   -- a step that changes nothing and tells nothing
-  pub stays : (next : Seat) (left : List ℕ) → next ≡ (places j).seat → left ≡ (places j).shelf → Goes n (place_with next left) letters trace
-  stays next left same_seat same_shelf =
-      subst (λ (all : ℕ → Place). Goes n all letters trace)
-      (sym (nothing_moved j (record { seat = next; shelf = left }) places (λ i. record { seat = same_seat i; shelf = same_shelf i }))) so_far
+  pub stays : Goes n (place_with (places j).seat (places j).shelf) letters trace
+  stays = rw (nothing_moved j (places j) places refl) so_far

@@ -8,7 +8,7 @@ use native.Mathlib.Decide.{ℕ_discrete}
 use native.Mathlib.Omega.{arith}
 use lib.Dec.{eqb}
 use lib.ListN.{get_or}
-use borrow.Author.Tests.{eqb-true, eq-eqb}
+use Rattle.std.proofs.lemmas.Bool.{eqb-true, eq-eqb, false_from_ne_true}
 use Rattle.vectors.proofs.Tests.{maxes_at}
 use Rattle.window.specs.Window.{handed}
 use Rattle.window.specs.declared.Window.{Window}
@@ -34,10 +34,6 @@ one_more false after t s e = (
   λ is. elim is [ inl never ↦ absurd (true≢false (sym never)) | inr same ↦ e ∙ eq-eqb t s same ],
 )
 
-not_true_is_false : (b : Bool) → (b ≡ true → ⊥) → b ≡ false
-not_true_is_false true never = absurd (never refl)
-not_true_is_false false never = refl
-
 module _ (seat : Seat) (packet : List ℕ) (sound : SoundState seat) (held : Held seat) (low : 1 ≤ (sender_of packet).0) (high : (sender_of packet).0 ≤ seat.n)
     (is_new : is_handed seat (sender_of packet) (number_of packet) ≡ true → ⊥) (is_ready : Ready seat packet) where
   abbrev next : Seat
@@ -52,7 +48,7 @@ module _ (seat : Seat) (packet : List ℕ) (sound : SoundState seat) (held : Hel
   at_sender : (t : ℕ) → In next sender t ↔ (In seat sender t ⊎ (t ≡ number_of packet))
   at_sender t =
       let w = window_at seat (sender - 1) in
-      let above = not_handed_is_above_run w (number_of packet) (not_true_is_false _ is_new) in
+      let above = not_handed_is_above_run w (number_of packet) (false_from_ne_true _ is_new) in
       let is = senders_window_takes_the_number seat (heading_of packet) (past_of packet) (barrier_of packet) held low (omega (arith, sound.seats_high)) in
       one_more (handed w t) (handed (window_at next (sender - 1)) t) t (number_of packet)
       (ap (λ (x : Window). handed x t) is ∙ handing_over_adds_one w (number_of packet) t above)

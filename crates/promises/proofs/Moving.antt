@@ -5,9 +5,6 @@ use mathlib.Core.Logic.{◌≢◌}
 use native.Mathlib.Decide.{ℕ_discrete}
 use native.Mathlib.Omega.{arith}
 use borrow.Author.Tests.{eq-eqb, ne_eqb}
-use Rattle.answers.specs.Answers.{refusal_number}
-use Rattle.answers.specs.declared.Refusal.{Refusal}
-use Rattle.answers.specs.declared.Refusal.TheVariants.{NotSound, BodyTooLong, CountFull, OutputTooShort, NotWellFormed, OtherSession, AboveOwnCount, Repeated, TooFarAhead, ShelfFull, NoSuchSeat, BarrierAbovePast}
 use Rattle.session.specs.Events.{Edit, Trace}
 use Rattle.session.specs.Protocol.{Turn}
 use Rattle.promises.specs.Demand3.{Place, moved_to, trace_after_arrival, trace_after_release}
@@ -33,20 +30,6 @@ module _ (j : ℕ) (place : Place) (places : ℕ → Place) where
             | yes here ↦ rw here (moved_here ∙ same)
             | no away ↦ stays_elsewhere l away
           ]
-
-pub refusals_are_from_10 : (refusal : Refusal) → 10 ≤ refusal_number refusal
-refusals_are_from_10 NotSound = omega arith
-refusals_are_from_10 BodyTooLong = omega arith
-refusals_are_from_10 CountFull = omega arith
-refusals_are_from_10 OutputTooShort = omega arith
-refusals_are_from_10 NotWellFormed = omega arith
-refusals_are_from_10 OtherSession = omega arith
-refusals_are_from_10 AboveOwnCount = omega arith
-refusals_are_from_10 Repeated = omega arith
-refusals_are_from_10 TooFarAhead = omega arith
-refusals_are_from_10 ShelfFull = omega arith
-refusals_are_from_10 NoSuchSeat = omega arith
-refusals_are_from_10 BarrierAbovePast = omega arith
 
 pub refused_arrival_tells_nothing : (number : ℕ) → 10 ≤ number → (j : ℕ) (edit arrived : Edit) (trace : Trace) → trace_after_arrival number j edit arrived trace ≡ trace
 refused_arrival_tells_nothing zero low j edit arrived trace = absurd (omega arith)

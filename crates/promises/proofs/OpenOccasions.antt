@@ -1,6 +1,6 @@
 -- The occasion of each answer of opening.
 use Prim.Native.Nat.{ℕ}
-use mathlib.Core.Path.{◌≡◌, sym, ap, subst}
+use mathlib.Core.Path.{◌≡◌, ap, subst}
 use mathlib.Core.Logic.{inl, inr}
 use mathlib.Core.List.{List, [], ◌∷◌}
 use Rattle.answers.specs.declared.SeatNo.{SeatNo}
@@ -40,15 +40,15 @@ module _ (n : ℕ) (own : SeatNo) (shelf : List ℕ) where
   by_shelf : SeatOf own n → occasion (answer_number answer)
   by_shelf range =
       elim (decided _ (whole_agrees shelf)) [
-        | inl whole ↦ subst occasion (sym (ap answer_number (in_range_is_opened range whole))) (range, whole)
-        | inr broken ↦ subst occasion (sym (ap answer_number (gives_10 range broken))) (range, broken)
+        | inl whole ↦ rw (in_range_is_opened range whole) (range, whole)
+        | inr broken ↦ rw (gives_10 range broken) (range, broken)
       ]
 
   tells : occasion (answer_number answer)
   tells =
       elim (decided _ (range_agrees (record { n = n; sender = own }))) [
         | inl range ↦ by_shelf range
-        | inr none ↦ subst occasion (sym (ap answer_number (gives_20 none))) none
+        | inr none ↦ rw (gives_20 none) none
       ]
 
   pub open_occasions : OpenAnswers n own shelf

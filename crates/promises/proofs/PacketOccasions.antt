@@ -1,6 +1,6 @@
 -- The occasion of each answer of writing and of reading.
 use Prim.Native.Nat.{ℕ, ◌≤◌, ◌<◌}
-use mathlib.Core.Path.{◌≡◌, sym, ap, subst}
+use mathlib.Core.Path.{◌≡◌, ap, subst}
 use mathlib.Core.Logic.{inl, inr}
 use mathlib.Core.List.{List, [], ◌∷◌}
 use native.Mathlib.Decide.{dec_lt}
@@ -54,18 +54,18 @@ module _ (kind : Kind) (header : Header) (past barrier body out : List ℕ) wher
   by_room : length body ≤ 200 → Good → occasion (answer_number answer)
   by_room short good =
       elim (dec_lt (length out) needed) [
-        | yes lack ↦ subst occasion (sym (ap answer_number (gives_13 short good lack))) (short, good, lack)
-        | no more ↦ let room : needed ≤ length out = omega arith in subst occasion (sym (ap answer_number (good_message_is_done short good room))) (short, good, room)
+        | yes lack ↦ rw (gives_13 short good lack) (short, good, lack)
+        | no more ↦ let room : needed ≤ length out = omega arith in rw (good_message_is_done short good room) (short, good, room)
       ]
 
   tells : occasion (answer_number answer)
   tells =
       elim (dec_lt 200 (length body)) [
-        | yes long ↦ subst occasion (sym (ap answer_number (answer_11 kind header past barrier body out long))) long
+        | yes long ↦ rw (answer_11 kind header past barrier body out long) long
         | no more ↦ let short : length body ≤ 200 = omega arith in
             elim (decided _ (writable_agrees kind header past barrier)) [
               | inl good ↦ by_room short good
-              | inr bad ↦ subst occasion (sym (ap answer_number (gives_14 short bad))) (short, bad)
+              | inr bad ↦ rw (gives_14 short bad) (short, bad)
             ]
       ]
 

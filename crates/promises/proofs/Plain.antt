@@ -2,15 +2,15 @@
 use Prim.Native.Nat.{ℕ, ◌<◌}
 use mathlib.Core.Path.{◌≡◌, refl, sym, ap, ◌∙◌}
 use mathlib.Core.Logic.{◌↔◌, ◌⊎◌, inl, inr}
-use mathlib.Core.Bool.{Bool, true, false, not, ◌&&◌, ◌||◌, true≢false, or-true}
+use mathlib.Core.Bool.{Bool, true, false, not, true≢false, or-true}
 use mathlib.Core.List.{List, [], ◌∷◌}
 use native.Mathlib.Decide.{dec_lt}
 use native.Mathlib.Omega.{arith}
 use lib.ListN.{get_or}
-use borrow.Author.Tests.{leb-true, eqb-true, lt-ltb, le-leb, eq-eqb}
+use Rattle.std.proofs.lemmas.Bool.{leb-true, eqb-true, lt-ltb, le-leb, eq-eqb, and_parts, or_cases, not-true}
 use Rattle.answers.specs.declared.SeatNo.{SeatNo}
 use Rattle.vectors.specs.Vectors.{within, same, maxes}
-use Rattle.vectors.proofs.Every.{and_both, all_at, all_of}
+use Rattle.vectors.proofs.Every.{all_at, all_of}
 use Rattle.vectors.proofs.Tests.{within_at, within_of, zero_above_at, zero_above_of, maxes_at}
 use Rattle.packet.specs.Packet.{sender_of, kind_of, past_of, barrier_of, less_one, point_seven, point_eight, vector_tests, first_failing, vectors_point, first_bad_point, well_formed}
 use Rattle.packet.specs.Writing.{in_range, writable}
@@ -42,10 +42,6 @@ pub fails : {P : Type 0} (test : Bool) → (P ↔ (test ≡ true)) → (P → �
 fails true agree never = absurd (never (agree.1 refl))
 fails false agree never = refl
 
-one_of_both : (a b : Bool) → (a || b) ≡ true → (a ≡ true) ⊎ (b ≡ true)
-one_of_both true b e = inl refl
-one_of_both false b e = inr e
-
 -- ---- packets
 
 pub range_agrees : (header : Header) → SeatOf header.sender header.n ↔ (in_range header ≡ true)
@@ -63,7 +59,7 @@ module _ (sender : SeatNo) (past barrier : List ℕ) where
 
   eight_says : (kind : Kind) → point_eight kind sender past barrier ≡ true → kind ≡ Causal → (k : ℕ) → k < 16 → get_or barrier k 0 ≡ get_or (less_one past sender) k 0
   unfolding point_eight same
-  eight_says Ordinary e is = let z : ◌≡◌ {A = ℕ} 0 1 = cc in absurd (omega arith)
+  eight_says Ordinary e is = cc
   eight_says Causal e is = λ k h. eqb-true _ _ (all_at _ 16 k e h)
 
   eight_holds : (kind : Kind) → (kind ≡ Causal → (k : ℕ) → k < 16 → get_or barrier k 0 ≡ get_or (less_one past sender) k 0) → point_eight kind sender past barrier ≡ true
@@ -136,7 +132,7 @@ pub whole_agrees : (shelf : List ℕ) → WholeSlots shelf ↔ (whole_slots shel
 unfolding whole_slots
 whole_agrees shelf = (
   λ facts. simp (eq-eqb _ _ facts.0, le-leb _ _ facts.1),
-  λ e. let both = and_both _ _ e in (eqb-true _ _ both.0, leb-true _ _ both.1),
+  λ e. let both = and_parts _ _ e in (eqb-true _ _ both.0, leb-true _ _ both.1),
 )
 
 pub state_agrees : (seat : Seat) → SoundState seat ↔ (sound_state seat ≡ true)
@@ -146,7 +142,7 @@ module _ (seat : Seat) (shelf : List ℕ) where
   pub sound_agrees : Sound seat shelf ↔ (sound_both seat shelf ≡ true)
   sound_agrees = (
     λ facts. simp (sound_passes seat facts.0, sound_shelf_passes seat shelf facts.1),
-    λ e. let both = and_both (sound_state seat) (sound_shelf seat shelf) e in (sound_says seat both.0, sound_shelf_says seat shelf both.1),
+    λ e. let both = and_parts (sound_state seat) (sound_shelf seat shelf) e in (sound_says seat both.0, sound_shelf_says seat shelf both.1),
   )
 
   module _ (packet : List ℕ) where
@@ -165,7 +161,7 @@ module _ (seat : Seat) (shelf : List ℕ) where
     repeats_agrees = (
       λ facts. elim facts [ inl over ↦ rw over | inr on ↦ rw (on_shelf_agrees.0 on) (or-true (is_handed seat (sender_of packet) (number_of packet))) ],
       λ e.
-          elim (one_of_both (is_handed seat (sender_of packet) (number_of packet)) (on_shelf shelf (sender_of packet) (number_of packet)) e) [
+          elim (or_cases (is_handed seat (sender_of packet) (number_of packet)) (on_shelf shelf (sender_of packet) (number_of packet)) e) [
             | inl over ↦ inl over
             | inr on ↦ inr (on_shelf_agrees.1 on)
           ],
@@ -217,10 +213,6 @@ module _ (seat : Seat) (shelf : List ℕ) (i : ℕ) where
   unfolding ready_at
   ready_slot_tests slot = simp (slot.1, (ready_agrees seat (packet_at shelf i)).0 slot.2)
 
-  used_and_ready : (free : Bool) → (not free && ready seat (barrier_of (packet_at shelf i))) ≡ true → (free ≡ false) × (ready seat (barrier_of (packet_at shelf i)) ≡ true)
-  used_and_ready false e = (refl, e)
-  used_and_ready true e = absurd (true≢false (sym e))
-
   pub tested_slot_is_ready : i < slots shelf → ready_at seat shelf i ≡ true → ReadySlot seat shelf i
   unfolding ready_at
-  tested_slot_is_ready there e = let both = used_and_ready (is_free shelf i) e in (there, both.0, (ready_agrees seat (packet_at shelf i)).1 both.1)
+  tested_slot_is_ready there e = let both = and_parts (not (is_free shelf i)) _ e in (there, not-true _ both.0, (ready_agrees seat (packet_at shelf i)).1 both.1)

@@ -109,11 +109,11 @@ module _ (seat : Seat) (shelf out : List ℕ) where
   by_room sound i next =
       elim (dec_lt (length out) (length (body_of (packet_at shelf i)))) [
         | yes short ↦ let lack : RoomFor seat shelf out i → ⊥ = λ room. omega arith in
-            subst occasion (sym (ap answer_number (gives_13 sound i next lack))) (sound, (i, next, lack))
+            rw (gives_13 sound i next lack) (sound, (i, next, lack))
         | no more ↦ let room : RoomFor seat shelf out i = omega arith in
             elim (stays_decided seat (packet_at shelf i)) [
-              | inl stays ↦ subst occasion (sym (ap answer_number (next_is_released sound i next room stays))) (sound, (i, next, room, stays))
-              | inr leaves ↦ subst occasion (sym (ap answer_number (gives_23 sound i next room leaves))) (sound, (i, next, room, leaves))
+              | inl stays ↦ rw (next_is_released sound i next room stays) (sound, (i, next, room, stays))
+              | inr leaves ↦ rw (gives_23 sound i next room leaves) (sound, (i, next, room, leaves))
             ]
       ]
 
@@ -122,11 +122,11 @@ module _ (seat : Seat) (shelf out : List ℕ) where
       elim (dec_lt (chosen seat shelf) (slots shelf)) [
         | yes there ↦ by_room sound (chosen seat shelf) (chosen_is_next there)
         | no more ↦ let none : (i : ℕ) → ReadySlot seat shelf i → ⊥ = λ i slot. more (some_ready_is_chosen i slot) in
-            subst occasion (sym (ap answer_number (none_ready_is_idle sound none))) (sound, none)
+            rw (none_ready_is_idle sound none) (sound, none)
       ]
 
   tells : occasion (answer_number answer)
-  tells = elim (decided _ (sound_agrees seat shelf)) [ inl sound ↦ by_ready sound | inr bad ↦ subst occasion (sym (ap answer_number (gives_10 bad))) bad ]
+  tells = elim (decided _ (sound_agrees seat shelf)) [ inl sound ↦ by_ready sound | inr bad ↦ rw (gives_10 bad) bad ]
 
   pub release_occasions : ReleaseAnswers seat shelf out
   release_occasions =

@@ -5,7 +5,6 @@ use mathlib.Core.List.{List}
 use native.Mathlib.Decide.{ℕ_discrete}
 use Rattle.answers.specs.Answers.{bare, report}
 use Rattle.answers.specs.declared.SeatNo.{SeatNo}
-use Rattle.answers.specs.declared.Edit.{Edit}
 use Rattle.answers.specs.declared.Answer.{Answer}
 use Rattle.answers.specs.declared.Answer.TheVariants.{Opened, Done, Shelved, NothingReady, Refused}
 use Rattle.seat.specs.State.{own_count}
@@ -28,10 +27,6 @@ zeros_unless_0 Shelved never = refl
 zeros_unless_0 NothingReady never = refl
 zeros_unless_0 (Refused refusal) never = refl
 
--- the edit of an answer that is done
-told : (answer : Answer) (edit : Edit) → answer ≡ Done edit → (report answer).edit ≡ edit
-told answer edit is = ap (λ (a : Answer). (report a).edit) is
-
 opening_reports_zeros : (n : ℕ) (own : SeatNo) (shelf : List ℕ) → report (open_answer n own shelf) ≡ bare (answer_number (open_answer n own shelf))
 opening_reports_zeros n own shelf =
     elim (ℕ_discrete (answer_number (open_answer n own shelf)) 0) [
@@ -46,17 +41,15 @@ reports =
       opening = opening_reports_zeros;
       writing = λ kind header past barrier body out zero.
           let facts = (write_occasions kind header past barrier body out).is_0.0 zero in
-          told _ _ (good_message_is_done kind header past barrier body out facts.0 facts.1 facts.2);
+          rw (good_message_is_done kind header past barrier body out facts.0 facts.1 facts.2);
       sending = λ seat body out held zero.
           let facts = (send_occasions seat body out).is_0.0 zero in
-          told _ _ (sound_send_is_done seat body out facts.0 facts.1 facts.2 facts.3)
-          ∙ sent_edit_is seat (sound_passes seat facts.0) held body (own_count seat) refl;
+          rw (sound_send_is_done seat body out facts.0 facts.1 facts.2 facts.3) (sent_edit_is seat (sound_passes seat facts.0) held body (own_count seat) refl);
       arriving = λ seat shelf packet zero.
-          let facts = (arrive_occasions seat shelf packet).is_0.0 zero in told _ _ (ready_arrival_is_done seat shelf packet facts.0 facts.1 facts.2);
+          let facts = (arrive_occasions seat shelf packet).is_0.0 zero in rw (ready_arrival_is_done seat shelf packet facts.0 facts.1 facts.2);
       releasing = λ seat shelf out zero i next.
           let facts = (release_occasions seat shelf out).is_0.0 zero in
           let j = facts.1.0 in
           let same : j ≡ i = next_is_chosen seat shelf out facts.0 j facts.1.1 ∙ sym (next_is_chosen seat shelf out facts.0 i next) in
-          told _ _ (next_is_released seat shelf out facts.0 j facts.1.1 facts.1.2 facts.1.3)
-          ∙ ap (λ (k : ℕ). edit_handed (packet_at shelf k)) same;
+          rw (next_is_released seat shelf out facts.0 j facts.1.1 facts.1.2 facts.1.3) (ap (λ (k : ℕ). edit_handed (packet_at shelf k)) same);
     }

@@ -1,6 +1,6 @@
 -- The occasion of each answer of sending.
 use Prim.Native.Nat.{ℕ, ◌≤◌, ◌<◌}
-use mathlib.Core.Path.{◌≡◌, sym, ap, subst}
+use mathlib.Core.Path.{◌≡◌, ap, subst}
 use mathlib.Core.Logic.{inl, inr}
 use mathlib.Core.List.{List, [], ◌∷◌}
 use native.Mathlib.Decide.{dec_lt, ℕ_discrete}
@@ -58,26 +58,26 @@ module _ (seat : Seat) (body out : List ℕ) where
   by_room : SoundState seat → length body ≤ 200 → (own_count seat ≡ 65535 → ⊥) → occasion (answer_number answer)
   by_room sound short more =
       elim (dec_lt (length out) needed) [
-        | yes lack ↦ subst occasion (sym (ap answer_number (gives_13 sound short more lack))) (sound, short, more, lack)
-        | no enough ↦ let room : needed ≤ length out = omega arith in subst occasion (sym (ap answer_number (sound_send_is_done sound short more room))) (sound, short, more, room)
+        | yes lack ↦ rw (gives_13 sound short more lack) (sound, short, more, lack)
+        | no enough ↦ let room : needed ≤ length out = omega arith in rw (sound_send_is_done sound short more room) (sound, short, more, room)
       ]
 
   by_count : SoundState seat → length body ≤ 200 → occasion (answer_number answer)
   by_count sound short =
       elim (ℕ_discrete (own_count seat) 65535) [
-        | yes full ↦ subst occasion (sym (ap answer_number (gives_12 sound short full))) (sound, short, full)
+        | yes full ↦ rw (gives_12 sound short full) (sound, short, full)
         | no more ↦ by_room sound short more
       ]
 
   by_body : SoundState seat → occasion (answer_number answer)
   by_body sound =
       elim (dec_lt 200 (length body)) [
-        | yes long ↦ subst occasion (sym (ap answer_number (gives_11 sound long))) (sound, long)
+        | yes long ↦ rw (gives_11 sound long) (sound, long)
         | no enough ↦ by_count sound (omega arith)
       ]
 
   tells : occasion (answer_number answer)
-  tells = elim (decided _ (state_agrees seat)) [ inl sound ↦ by_body sound | inr bad ↦ subst occasion (sym (ap answer_number (gives_10 bad))) bad ]
+  tells = elim (decided _ (state_agrees seat)) [ inl sound ↦ by_body sound | inr bad ↦ rw (gives_10 bad) bad ]
 
   pub send_occasions : SendAnswers seat body out
   send_occasions =

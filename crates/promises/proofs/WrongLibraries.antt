@@ -134,16 +134,13 @@ module _ (library : Library) (meets : Meets library) where
   something_changes : ChangesNothing library → ⊥
   something_changes (no_state_sent each) =
       let stays : fresh_seat 1 1 ≡ _ = sym (each (fresh_seat 1 1) Usual [] (replicate 7 0)) ∙ (meets.sending (fresh_seat 1 1) Usual [] (replicate 7 0)).next in
-      let z : ◌≡◌ {A = ℕ} 0 1 = ap (λ (s : Seat). entry s.past (seat_no 1)) stays ∙ a_send_counts in
-      omega arith
+      omega (arith, ap (λ (s : Seat). entry s.past (seat_no 1)) stays ∙ a_send_counts)
   something_changes (no_state_arrived each) =
       let stays : fresh_seat 2 2 ≡ _ = sym (each (fresh_seat 2 2) (first_sent Ordinary) []) ∙ (meets.arriving (fresh_seat 2 2) (first_sent Ordinary) []).next in
-      let z : ◌≡◌ {A = ℕ} 0 1 = ap (λ (s : Seat). entry s.run (seat_no 1)) stays ∙ arrivals_say.0 in
-      omega arith
+      omega (arith, ap (λ (s : Seat). entry s.run (seat_no 1)) stays ∙ arrivals_say.0)
   something_changes (no_shelf each) =
       let stays : free_slot ≡ _ = sym (each (fresh_seat 2 2) (second_sent Ordinary Causal) free_slot) ∙ (meets.arriving (fresh_seat 2 2) (second_sent Ordinary Causal) free_slot).shelf_after_is in
-      let z : ◌≡◌ {A = ℕ} 0 1 = sym free_starts_with_zero ∙ ap (λ (s : List ℕ). get_or s 0 0) stays ∙ arrivals_say.1 in
-      omega arith
+      omega (arith, sym free_starts_with_zero ∙ ap (λ (s : List ℕ). get_or s 0 0) stays ∙ arrivals_say.1)
 
 -- ---- the definitions themselves are a library
 

@@ -4,35 +4,16 @@ use mathlib.Core.Path.{◌≡◌, refl, ap}
 use mathlib.Core.List.Memᴰ
 use mathlib.Core.List.{[], ◌∷◌}
 use mathlib.Core.Logic.{◌⊎◌, inl, inr, ⊎_elim, ⊎_map}
-use native.Mathlib.Omega.{arith}
 use Rattle.session.specs.Events.{Kind, causal, Way, arrival, Edit, Event, sent, handed, shelved, idle, Trace, ◌∈◌, last}
 use Rattle.session.specs.Events.{seat, link, Sent, Pair, pair, Needs, direct, through, Handed, Accepted, Exact, Kept}
 use Rattle.session.proofs.Order.{before_in, before_old}
 use Rattle.promises.specs.WrongSessions.{AllAccepted, WrongSessions}
 
--- ---- kinds of event are told apart
+-- ---- events
 
 older : {x y : Event} {t : Trace} → ¬ (x ≡ y) → x ∈ (y ∷ t) → x ∈ t
 older other (Memᴰ.head q) = absurd (other q)
 older other (Memᴰ.tail m) = m
-
-handed_is_not_sent : {w : Way} {j : ℕ} {e f : Edit} {k : Kind} → ¬ (handed w j e ≡ sent f k)
-handed_is_not_sent q = let z : ◌≡◌ {A = ℕ} 0 1 = cc in absurd (omega arith)
-
-handed_is_not_shelved : {w : Way} {i j : ℕ} {e f : Edit} → ¬ (handed w j e ≡ shelved i f)
-handed_is_not_shelved q = let z : ◌≡◌ {A = ℕ} 0 1 = cc in absurd (omega arith)
-
-shelved_is_not_sent : {j : ℕ} {e f : Edit} {k : Kind} → ¬ (shelved j e ≡ sent f k)
-shelved_is_not_sent q = let z : ◌≡◌ {A = ℕ} 0 1 = cc in absurd (omega arith)
-
-shelved_is_not_handed : {w : Way} {i j : ℕ} {e f : Edit} → ¬ (shelved j e ≡ handed w i f)
-shelved_is_not_handed q = let z : ◌≡◌ {A = ℕ} 0 1 = cc in absurd (omega arith)
-
-sent_is_not_handed : {w : Way} {j : ℕ} {e f : Edit} {k : Kind} → ¬ (sent e k ≡ handed w j f)
-sent_is_not_handed q = let z : ◌≡◌ {A = ℕ} 0 1 = cc in absurd (omega arith)
-
-sent_is_not_shelved : {j : ℕ} {e f : Edit} {k : Kind} → ¬ (sent e k ≡ shelved j f)
-sent_is_not_shelved q = let z : ◌≡◌ {A = ℕ} 0 1 = cc in absurd (omega arith)
 
 sends_one_edit : {e f : Edit} {k l : Kind} → sent f l ≡ sent e k → f ≡ e
 sends_one_edit q = cc
@@ -67,36 +48,36 @@ left_lying j e t all s lacks kept = lacks ((kept.0 e).1 (all e s, λ f n. all f 
 module _ (j : ℕ) (e : Edit) (k : Kind) where
   one_shelved : AllAccepted (shelved j e ∷ sent e k ∷ []) j
   one_shelved f (l, m) =
-      let is : f ≡ e = sends_one_edit (Memᴰ.eq_of_singleton (older sent_is_not_shelved m)) in
+      let is : f ≡ e = sends_one_edit (Memᴰ.eq_of_singleton (older (λ q. cc) m)) in
       let same : shelved j f ≡ shelved j e = cc in
       inr (Memᴰ.head same)
 
   only_shelves : ¬ Kept (idle j ∷ shelved j e ∷ sent e k ∷ [])
   only_shelves =
       left_lying j e (shelved j e ∷ sent e k ∷ []) one_shelved (k, Memᴰ.tail (Memᴰ.head refl))
-      (λ (w, m). Memᴰ.not-nil (older handed_is_not_sent (older handed_is_not_shelved m)))
+      (λ (w, m). Memᴰ.not-nil (older (λ q. cc) (older (λ q. cc) m)))
 
   one_handed : AllAccepted (handed arrival j e ∷ sent e k ∷ []) j
   one_handed f (l, m) =
-      let is : f ≡ e = sends_one_edit (Memᴰ.eq_of_singleton (older sent_is_not_handed m)) in
+      let is : f ≡ e = sends_one_edit (Memᴰ.eq_of_singleton (older (λ q. cc) m)) in
       let same : handed arrival j f ≡ handed arrival j e = cc in
       inl (Memᴰ.head same)
 
   on_arrival : {w : Way} {f : Edit} → handed w j f ∈ (handed arrival j e ∷ sent e k ∷ []) → handed arrival j f ∈ (handed arrival j e ∷ sent e k ∷ [])
   on_arrival {w} {f} m =
       ⊎_elim (λ q. let same : handed arrival j f ≡ handed arrival j e = cc in Memᴰ.head same)
-      (λ m. absurd (Memᴰ.not-nil (older handed_is_not_sent m))) (Memᴰ.cases_cons m)
+      (λ m. absurd (Memᴰ.not-nil (older (λ q. cc) m))) (Memᴰ.cases_cons m)
 
   exact : Exact (handed arrival j e ∷ sent e k ∷ []) j
   exact f = (
     λ (w, m). (inl (on_arrival m), λ g n. one_handed g (needed_is_sent n)),
     λ (accepted, _).
-        ⊎_elim (λ m. (arrival, m)) (λ m. absurd (Memᴰ.not-nil (older shelved_is_not_sent (older shelved_is_not_handed m)))) accepted,
+        ⊎_elim (λ m. (arrival, m)) (λ m. absurd (Memᴰ.not-nil (older (λ q. cc) (older (λ q. cc) m)))) accepted,
   )
 
   treated_rightly : Kept (idle j ∷ handed arrival j e ∷ sent e k ∷ [])
   treated_rightly =
-      (exact, ((λ (w, m). Memᴰ.not-nil (older handed_is_not_sent m), λ f n. absurd (first_needs_nothing n)), (tt, tt)))
+      (exact, ((λ (w, m). Memᴰ.not-nil (older (λ q. cc) m), λ f n. absurd (first_needs_nothing n)), (tt, tt)))
 
 -- ---- two edits
 
@@ -105,7 +86,7 @@ module _ (j : ℕ) (first second : Edit) (k l : Kind) (other : ¬ (second ≡ fi
   one_of_two p = ⊎_map sends_one_edit (λ r. sends_one_edit (Memᴰ.eq_of_singleton r)) (Memᴰ.cases_cons p)
 
   not_yet : {w : Way} → ¬ (handed w j second ∈ (sent second l ∷ sent first k ∷ []))
-  not_yet m = Memᴰ.not-nil (older handed_is_not_sent (older handed_is_not_sent m))
+  not_yet m = Memᴰ.not-nil (older (λ q. cc) (older (λ q. cc) m))
 
   another : {w : Way} → ¬ (handed w j second ≡ handed arrival j first)
   another q = other cc
@@ -121,16 +102,16 @@ module _ (j : ℕ) (first second : Edit) (k l : Kind) (other : ¬ (second ≡ fi
   shelf_unchanged : ¬ Kept (idle j ∷ handed arrival j first ∷ shelved j second ∷ sent second l ∷ sent first k ∷ [])
   shelf_unchanged =
       left_lying j second (handed arrival j first ∷ shelved j second ∷ sent second l ∷ sent first k ∷ [])
-      (λ f (m, p). both (Memᴰ.head refl) (Memᴰ.tail (Memᴰ.head refl)) (one_of_two (older sent_is_not_shelved (older sent_is_not_handed p))))
+      (λ f (m, p). both (Memᴰ.head refl) (Memᴰ.tail (Memᴰ.head refl)) (one_of_two (older (λ q. cc) (older (λ q. cc) p))))
       (l, Memᴰ.tail (Memᴰ.tail second_sent_lem))
-      (λ (w, m). not_yet (older handed_is_not_shelved (older another m)))
+      (λ (w, m). not_yet (older (λ q. cc) (older another m)))
 
   says_1_after_first : ¬ Kept (idle j ∷ shelved j second ∷ handed arrival j first ∷ sent second l ∷ sent first k ∷ [])
   says_1_after_first =
       left_lying j second (shelved j second ∷ handed arrival j first ∷ sent second l ∷ sent first k ∷ [])
-      (λ f (m, p). both (Memᴰ.tail (Memᴰ.head refl)) (Memᴰ.head refl) (one_of_two (older sent_is_not_handed (older sent_is_not_shelved p))))
+      (λ f (m, p). both (Memᴰ.tail (Memᴰ.head refl)) (Memᴰ.head refl) (one_of_two (older (λ q. cc) (older (λ q. cc) p))))
       (l, Memᴰ.tail (Memᴰ.tail second_sent_lem))
-      (λ (w, m). not_yet (older another (older handed_is_not_shelved m)))
+      (λ (w, m). not_yet (older another (older (λ q. cc) m)))
 
 pub wrong_sessions : WrongSessions
 wrong_sessions =
@@ -143,6 +124,6 @@ wrong_sessions =
       numbered_alike = λ w j e k l t either kept. kept.0.0 (kept.0.1 e (needs_the_one_before k l t refl either));
       says_0_too_early = λ w j first second k l t same either lacks kept.
           let (v, m) = kept.0.1 first (needs_the_one_before k l t same either) in
-          lacks (v, older handed_is_not_sent (older handed_is_not_sent m));
+          lacks (v, older (λ q. cc) (older (λ q. cc) m));
       says_1_after_first = says_1_after_first;
     }

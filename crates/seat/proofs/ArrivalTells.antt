@@ -6,7 +6,7 @@ use mathlib.Core.List.{List, [], ◌∷◌}
 use native.Mathlib.Omega.{arith}
 use lib.Arith.{lt_of_le-ne}
 use lib.Dec.{eqb}
-use borrow.Author.Tests.{eqb-true, ltb-false, not-false}
+use Rattle.std.proofs.lemmas.Bool.{eqb-true, ltb-false, not-false, and_parts}
 use Rattle.answers.specs.Answers.{first_of}
 use Rattle.answers.specs.declared.Edit.{Edit}
 use Rattle.answers.specs.declared.Refusal.{Refusal}
@@ -14,7 +14,6 @@ use Rattle.answers.specs.declared.Refusal.TheVariants.{NotSound, NotWellFormed, 
 use Rattle.answers.specs.declared.Answer.{Answer}
 use Rattle.answers.specs.declared.Answer.TheVariants.{Opened, Done, Shelved, NothingReady, Refused}
 use Rattle.answers.proofs.InOrder.{NoRefusal, done_is_no_refusal, shelved_is_no_refusal, idle_is_no_refusal, opened_is_no_refusal, passed}
-use Rattle.vectors.proofs.Every.{and_both}
 use Rattle.packet.specs.Packet.{sender_of, past_of, barrier_of, first_bad_point}
 use Rattle.shelf.specs.Shelf.{slots, is_free, lowest_free}
 use Rattle.shelf.proofs.Lowest.{lowest_is_lowest}
@@ -76,7 +75,7 @@ module _ (seat : Seat) (shelf packet : List ℕ) where
       let p10 = passed NotSound _ judged _ answer e (none NotSound) in
       let p14 = passed NotWellFormed _ judged _ answer p10.1 (none NotWellFormed) in
       let rest = admission_passed seat (heading_of packet) (past_of packet) (repeats seat shelf packet) judged answer p14.1 none in
-      let sound = and_both (sound_state seat) (sound_shelf seat shelf) (not-false _ p10.0) in
+      let sound = and_parts (sound_state seat) (sound_shelf seat shelf) (not-false _ p10.0) in
       let new = or_neither (is_handed seat (sender_of packet) (number_of packet)) (on_shelf shelf (sender_of packet) (number_of packet)) rest.0.new in (
         record {
           sound = sound.0;

@@ -3,7 +3,8 @@ use Prim.Native.Nat.{ℕ, ◌+◌, ◌≤◌, ◌<◌}
 use mathlib.Core.Path.{◌≡◌, refl, sym, ◌∙◌}
 use mathlib.Core.Bool.{Bool, true, false, not, ◌&&◌, ◌||◌}
 use mathlib.Core.List.{List}
-use borrow.Author.Tests.{not-true, not-false, ltb-false, eq-eqb, eqb-true}
+use borrow.Author.Tests.{eq-eqb}
+use Rattle.std.proofs.lemmas.Bool.{not-true, not-false, ltb-false, eqb-true, and_parts}
 use Rattle.std.specs.Prelude.{Result, Ok, Err, is_ok}
 use Rattle.answers.specs.Answers.{first_of}
 use Rattle.answers.specs.declared.Refusal.{Refusal}
@@ -11,7 +12,6 @@ use Rattle.answers.specs.declared.Answer.{Answer}
 use Rattle.answers.specs.declared.Answer.TheVariants.{Shelved}
 use Rattle.answers.proofs.InOrder.{shelved_is_no_refusal}
 use Rattle.vectors.specs.Vectors.{entry}
-use Rattle.vectors.proofs.Every.{and_both}
 use Rattle.window.specs.Window.{handed}
 use Rattle.window.proofs.Handed.{not_handed_is_above_run}
 use Rattle.packet.specs.declared.Heading.{Heading}
@@ -40,8 +40,8 @@ passed_is_in_window seat words heading past passed =
     let number = entry past heading.sender in
     let repeated = handed (window_with seat.run words heading.sender) number in
     let far = too_far_ahead seat heading.sender number in
-    let near = and_both (not (other_session seat heading) && not (above_own_count seat past) && not repeated) (not far) passed in
-    let new = and_both (not (other_session seat heading) && not (above_own_count seat past)) (not repeated) near.0 in
+    let near = and_parts (not (other_session seat heading) && not (above_own_count seat past) && not repeated) (not far) passed in
+    let new = and_parts (not (other_session seat heading) && not (above_own_count seat past)) (not repeated) near.0 in
     (not_handed_is_above_run (window_with seat.run words heading.sender) number (not-true repeated new.1), ltb-false _ _ (not-true far near.1))
 
 -- what is admitted passes, and what is refused does not
@@ -57,9 +57,9 @@ module _ (seat : Seat) (words : List ℕ) (heading : Heading) (past : List ℕ) 
   unfolding passes_beside
   admits_where passed done =
       let far = too_far_ahead seat heading.sender (entry past heading.sender) in
-      let near = and_both (not (other_session seat heading) && not (above_own_count seat past) && not repeated) (not far) passed in
-      let new = and_both (not (other_session seat heading) && not (above_own_count seat past)) (not repeated) near.0 in
-      let own = and_both (not (other_session seat heading)) (not (above_own_count seat past)) new.0 in
+      let near = and_parts (not (other_session seat heading) && not (above_own_count seat past) && not repeated) (not far) passed in
+      let new = and_parts (not (other_session seat heading) && not (above_own_count seat past)) (not repeated) near.0 in
+      let own = and_parts (not (other_session seat heading)) (not (above_own_count seat past)) new.0 in
       passes_all seat heading past repeated done (eqb-true _ _ (not-false _ (not-true _ own.0))) (not-true _ own.1) (not-true _ new.1) (not-true far near.1)
 
   pub admitted_is_passed : (result : Result (Unit {0}) Refusal) → ((done : Answer) → unless result done ≡ first_of (admission_refusals seat heading past repeated) done)

@@ -3,10 +3,10 @@ use Prim.Native.Nat.{ℕ}
 use mathlib.Core.Path.{◌≡◌}
 use mathlib.Core.Bool.{true}
 use mathlib.Core.List.{List}
+use Rattle.std.proofs.lemmas.Bool.{and_parts}
 use Rattle.answers.specs.declared.SeatNo.{SeatNo}
 use Rattle.answers.specs.declared.Answer.TheVariants.{Opened}
 use Rattle.vectors.specs.Bytes.{Bytes}
-use Rattle.vectors.proofs.Every.{and_both}
 use Rattle.seat.specs.State.{sound_state, Held}
 use Rattle.seat.specs.Stock.{sound_shelf}
 use Rattle.seat.specs.Opening.{OpenedAs}
@@ -29,7 +29,7 @@ open_leaves_both_sound n own shelf stepped after meets is = place_is_sound stepp
 module _ (seat : Seat) (shelf : List ℕ) (sound : sound_both seat shelf ≡ true) (held : Held seat) (bytes : Bytes shelf) where
   place : SoundPlace seat shelf
   place =
-      let both = and_both (sound_state seat) (sound_shelf seat shelf) sound in
+      let both = and_parts (sound_state seat) (sound_shelf seat shelf) sound in
       bytes_make_a_place seat shelf both.0 held both.1 bytes
 
   pub send_leaves_both_sound : (wish : Wish) (body out : List ℕ) (stepped : Stepped) (after : List ℕ) → Sent seat wish body out stepped after

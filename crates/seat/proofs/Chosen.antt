@@ -8,10 +8,9 @@ use native.Mathlib.Decide.{dec_lt, dec_le}
 use native.Mathlib.Nat.{le_of_suc-le-suc, eq-or-lt_of_le}
 use native.Mathlib.Omega.{arith}
 use lib.Dec.{leb, ltb, eqb}
-use borrow.Author.Tests.{eq-eqb, lt-ltb, le-ltb, le-leb, ltb-true, leb-true, eqb-true}
+use Rattle.std.proofs.lemmas.Bool.{eq-eqb, lt-ltb, le-ltb, le-leb, ltb-true, leb-true, eqb-true, and_parts, cases_Bool}
 use Rattle.vectors.specs.Vectors.{all}
-use Rattle.vectors.proofs.Every.{and_both, all_at, all_of}
-use Rattle.window.proofs.Bits.{true_or_false}
+use Rattle.vectors.proofs.Every.{all_at, all_of}
 use Rattle.packet.specs.Packet.{sender_of}
 use Rattle.shelf.specs.Shelf.{slots, is_free}
 use Rattle.shelf.proofs.Lowest.{lowest_is_lowest, none_lowest, lowest_none}
@@ -36,7 +35,7 @@ module _ (one other : List ℕ) where
   no_later_says e =
       elim (one_of_both (ltb (sender_of one).0 (sender_of other).0) (eqb (sender_of one).0 (sender_of other).0 && leb (number_of one) (number_of other)) e) [
         | inl less ↦ inl (ltb-true (sender_of one).0 (sender_of other).0 less)
-        | inr same ↦ let both = and_both (eqb (sender_of one).0 (sender_of other).0) (leb (number_of one) (number_of other)) same in
+        | inr same ↦ let both = and_parts (eqb (sender_of one).0 (sender_of other).0) (leb (number_of one) (number_of other)) same in
             inr (eqb-true (sender_of one).0 (sender_of other).0 both.0, leb-true (number_of one) (number_of other) both.1)
       ]
 
@@ -109,14 +108,14 @@ module _ (seat : Seat) (shelf : List ℕ) where
   first_or_none zero = inr (λ j h. absurd (omega arith))
   first_or_none (suc n) =
       elim (first_or_none n) [
-        | inl one ↦ elim (true_or_false (ready_at seat shelf n)) [
+        | inl one ↦ elim (cases_Bool (ready_at seat shelf n)) [
           | inl is ↦ elim (one_is_no_later (packet_at shelf one.0) (packet_at shelf n)) [
             | inl stays ↦ inl (one.0, first_stays n one.0 one.1 (λ here. stays))
             | inr sooner ↦ inl (n, last_is_first n one.0 one.1 is sooner)
           ]
           | inr waits ↦ inl (one.0, first_stays n one.0 one.1 (λ is. absurd (true≢false (sym is ∙ waits))))
         ]
-        | inr none ↦ elim (true_or_false (ready_at seat shelf n)) [
+        | inr none ↦ elim (cases_Bool (ready_at seat shelf n)) [
           | inl is ↦ inl (n, alone_is_first n none is)
           | inr waits ↦ inr (none_more n none waits)
         ]
@@ -138,7 +137,7 @@ module _ (seat : Seat) (shelf : List ℕ) where
   unfolding comes_first
   comes_first_parts n i e =
       let test : ℕ → Bool = λ j. not (ready_at seat shelf j) || no_later (packet_at shelf i) (packet_at shelf j) in
-      let both = and_both (ready_at seat shelf i) (all n test) e in
+      let both = and_parts (ready_at seat shelf i) (all n test) e in
       (both.0, λ j h is. rw is at (all_at test n j both.1 h))
 
   -- ---- the slot that is released

@@ -4,8 +4,8 @@ use mathlib.Core.Path.{◌≡◌, ◌∙◌}
 use mathlib.Core.Bool.{false}
 use mathlib.Core.List.{List}
 use lib.ListN.{length, drop}
+use Rattle.std.proofs.lemmas.Bool.{and_parts}
 use Rattle.vectors.specs.Vectors.{entry}
-use Rattle.vectors.proofs.Every.{and_both}
 use Rattle.window.proofs.Handed.{not_handed_is_above_run}
 use Rattle.packet.specs.Packet.{sender_of, body_at}
 use Rattle.packet.specs.Reading.{body_of}
@@ -28,10 +28,10 @@ use Rattle.seat.proofs.WellRead.{Sizes, carried, read_sizes, carried_is, marks_a
 
 module _ (seat : Seat) (shelf : List ℕ) (i : ℕ) (c : Chosen seat shelf i) where
   state_is_sound : SoundState seat
-  state_is_sound = sound_says seat (and_both (sound_state seat) (sound_shelf seat shelf) c.sound).0
+  state_is_sound = sound_says seat (and_parts (sound_state seat) (sound_shelf seat shelf) c.sound).0
 
   shelf_is_sound : SoundShelf seat shelf
-  shelf_is_sound = sound_shelf_says seat shelf (and_both (sound_state seat) (sound_shelf seat shelf) c.sound).1
+  shelf_is_sound = sound_shelf_says seat shelf (and_parts (sound_state seat) (sound_shelf seat shelf) c.sound).1
 
   is_used : is_free shelf i ≡ false
   is_used =

@@ -1,6 +1,6 @@
 -- Laws of the ready packet that comes first on the first n slots: one slot more, and at the end of the shelf.
 use Prim.Native.Nat.{ℕ, ◌+◌, ◌<◌}
-use mathlib.Core.Path.{◌≡◌, refl, sym, ap, ◌∙◌}
+use mathlib.Core.Path.{◌≡◌, refl, sym, ◌∙◌}
 use mathlib.Core.Bool.{Bool, true, false, cond, not, ◌&&◌, ◌||◌, true≢false}
 use mathlib.Core.List.{List}
 use mathlib.Core.Logic.{inl, inr}
@@ -16,7 +16,7 @@ use Rattle.answers.specs.declared.SeatNo.{SeatNo}
 use Rattle.vectors.proofs.Every.{all_of, all_fails}
 use Rattle.packet.specs.Packet.{sender_of, barrier_of}
 use Rattle.shelf.specs.Shelf.{slots, is_free, slot_or_none}
-use Rattle.shelf.proofs.Lowest.{only_lowest, none_of, some_of, none_is_past, some_is_it}
+use Rattle.shelf.proofs.Lowest.{only_lowest, none_of, some_of, none_is_past}
 use Rattle.seat.specs.Stock.{packet_at, number_of}
 use Rattle.seat.specs.HandingOver.{ready}
 use Rattle.seat.specs.Releasing.{ready_at, no_later, comes_first, chosen}
@@ -188,6 +188,3 @@ module _ (seat : Seat) (shelf : List ℕ) where
     pub none_is_chosen : ((one : Ready) → first ≡ Some one → ⊥) → chosen seat shelf ≡ slots shelf
     none_is_chosen none =
         le_antisymm (chosen_is_at_most_slots seat shelf) (none_is_past (slots shelf) (chosen seat shelf) (first_slot first) is (no_slot first none))
-
-    pub one_is_chosen : (one : Ready) → first ≡ Some one → (one.slot ≡ chosen seat shelf) × (one.slot < slots shelf)
-    one_is_chosen one e = some_is_it (slots shelf) (chosen seat shelf) (first_slot first) is one.slot (ap first_slot e)

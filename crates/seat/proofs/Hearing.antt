@@ -4,35 +4,31 @@ use mathlib.Core.Path.{◌≡◌, refl, sym, ap, ◌∙◌}
 use mathlib.Core.Bool.{Bool, true, false, not, ◌||◌, true≢false}
 use mathlib.Core.List.{List}
 use lib.ListN.{length}
-use lib.Arith.{lt_of_le-ne}
-use borrow.Author.Tests.{eq-eqb, ne_eqb, ltb-false}
-use Rattle.std.specs.Prelude.{Some}
+use Rattle.std.proofs.lemmas.Bool.{eq-eqb, ne_eqb, ltb-false, and_parts}
 use Rattle.answers.specs.Answers.{first_of}
 use Rattle.answers.specs.declared.Edit.{Edit}
 use Rattle.answers.specs.declared.Refusal.TheVariants.{NotSound, NotWellFormed}
 use Rattle.answers.specs.declared.Answer.{Answer}
 use Rattle.answers.specs.declared.Answer.TheVariants.{Done, Shelved, Refused}
 use Rattle.answers.specs.declared.Refusal.{Refusal}
-use Rattle.answers.proofs.InOrder.{NoRefusal, shelved_is_no_refusal, refuses, goes_on}
+use Rattle.answers.proofs.InOrder.{NoRefusal, refuses, goes_on}
 use Rattle.vectors.specs.Vectors.{entry}
-use Rattle.vectors.proofs.Every.{and_both}
 use Rattle.window.specs.Window.{handed, none_above}
 use Rattle.window.proofs.Handed.{not_handed_is_above_run}
 use Rattle.packet.specs.Packet.{sender_of, kind_of, past_of, barrier_of, first_bad_point}
 use Rattle.packet.specs.Reading.{header_of, message}
 use Rattle.packet.specs.declared.Heading.{Heading}
 use Rattle.packet.proofs.Told.{Told, told_of}
-use Rattle.shelf.specs.Shelf.{slots, is_free, slot_of, laid, lowest_free}
-use Rattle.shelf.proofs.Lowest.{lowest_is_lowest}
+use Rattle.shelf.specs.Shelf.{slot_of, laid, lowest_free}
 use Rattle.seat.specs.State.{window_of, sound_state, SoundState}
 use Rattle.seat.specs.Stock.{number_of, sound_shelf}
 use Rattle.seat.specs.HandingOver.{hand_over}
 use Rattle.seat.specs.Arriving.{heading_of, sound_both, admission_refusals, repeats, arrive_refusals, edit_handed, admitted_answer, arrive_answer, Arrived}
 use Rattle.seat.specs.Survey.{window_with}
-use Rattle.seat.specs.Steps.{LookedOver, Heard}
+use Rattle.seat.specs.Steps.{Heard}
 use Rattle.seat.specs.declared.Seat.{Seat}
 use Rattle.seat.specs.declared.stock.Stock.{Stock}
-use Rattle.seat.proofs.Admitting.{admission_passed, shelved_tells}
+use Rattle.seat.proofs.Admitting.{admission_passed}
 use Rattle.seat.proofs.Sound.{sound_says}
 use Rattle.seat.proofs.WellRead.{Sizes, carried, read_sizes, carried_is, marks_are_low}
 
@@ -55,7 +51,7 @@ module _ (seat : Seat) (shelf : List ℕ) (stock : Stock) (packet : List ℕ) (h
   heard_told = told_of packet h.is_well_formed
 
   pub heard_state : SoundState seat
-  heard_state = sound_says seat (and_both (sound_state seat) (sound_shelf seat shelf) h.sound).0
+  heard_state = sound_says seat (and_parts (sound_state seat) (sound_shelf seat shelf) h.sound).0
 
   pub heard_sizes : Sizes heading packet
   heard_sizes = read_sizes packet heading h.is_well_formed h.heading_is
@@ -95,12 +91,6 @@ module _ (seat : Seat) (shelf : List ℕ) (stock : Stock) (packet : List ℕ) (h
         in_reach = rw (h.heading_is, h.past_is) (ltb-false _ _ admitted.near);
       }
 
-  pub heard_free : arrive_answer seat shelf packet ≡ Shelved → (free : ℕ) → free ≡ lowest_free shelf → free < slots shelf
-  heard_free e free is =
-      let admitted = admission_passed seat (heading_of packet) (past_of packet) (repeats seat shelf packet) _ Shelved (sym (heard_goes_on seat shelf packet h.sound h.is_well_formed) ∙ e) shelved_is_no_refusal in
-      let not_full = (shelved_tells seat shelf (heading_of packet) (past_of packet) (barrier_of packet) (edit_handed packet) admitted.1).1 in
-      lt_of_le-ne (rw is (lowest_is_lowest (slots shelf) (is_free shelf)).most) (λ same. not_full (sym is ∙ same))
-
 -- ---- what each answer leaves
 
 module _ (seat : Seat) (packet shelf : List ℕ) (answer : Answer) (a : answer ≡ arrive_answer seat shelf packet) where
@@ -126,16 +116,3 @@ module _ (seat : Seat) (packet shelf : List ℕ) where
   unfolding arrive_answer arrive_refusals
   refused_14 sound bad =
       arrived_refused seat packet shelf _ (sym (goes_on NotSound _ _ _ (ap not sound) ∙ refuses NotWellFormed _ _ _ (ap not (ne_eqb _ _ bad)))) NotWellFormed refl
-
--- a packet that was read beside a stock is heard
-pub heard : (seat : Seat) (shelf : List ℕ) (stock : Stock) (packet : List ℕ) (heading : Heading) (past barrier : List ℕ) → LookedOver false seat shelf (Some stock)
-    → first_bad_point packet ≡ 0 → heading ≡ heading_of packet → past ≡ past_of packet → barrier ≡ barrier_of packet → Heard seat shelf stock packet heading past barrier
-heard seat shelf stock packet heading past barrier looked well h p b =
-    record {
-      sound = looked.0;
-      surveyed = looked.1;
-      is_well_formed = well;
-      heading_is = h;
-      past_is = p;
-      barrier_is = b;
-    }

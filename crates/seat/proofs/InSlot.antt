@@ -1,14 +1,12 @@
 -- Laws of the packet in a slot: when there is none, and what it is.
-use Prim.Native.Nat.{ℕ, ◌+◌, ◌*◌, ◌-◌, ◌%◌, ◌≤◌, ◌<◌}
+use Prim.Native.Nat.{ℕ, ◌+◌, ◌-◌, ◌≤◌, ◌<◌}
 use mathlib.Core.Path.{◌≡◌, refl, sym, ap, ◌∙◌}
 use mathlib.Core.Bool.{Bool, true, false, cond, ◌&&◌, and-false}
 use mathlib.Core.List.{List, []}
 use native.Mathlib.Omega.{arith}
 use lib.Dec.{leb, eqb}
 use lib.ListN.{length, get_or, take, drop, replicate, get_or-append}
-use lib.Seq.{get_or-drop}
-use borrow.Author.Tests.{eq-eqb, ne_eqb, le-leb, lt-leb, leb-true, eqb-true}
-use Rattle.vectors.proofs.Every.{and_both}
+use Rattle.std.proofs.lemmas.Bool.{eq-eqb, ne_eqb, le-leb, lt-leb, leb-true, eqb-true, and_parts}
 use Rattle.packet.specs.Packet.{first_bad_point}
 use Rattle.packet.proofs.Formed.{formed}
 use Rattle.shelf.specs.Shelf.{slot_size, slot_of, rest_zero}
@@ -16,10 +14,6 @@ use Rattle.shelf.proofs.Holding.{slot_of_starts_with_one, slot_of_reads_back, sl
 use Rattle.seat.specs.Stock.{named_length, holds_packet, packet_in}
 
 module _ (slot : List ℕ) where
-  -- the end of the packet, as the bytes of the slot name it
-  pub named_end : 1 + 3 + 4 * (get_or slot 1 0 % 16 + 1) + get_or slot 3 0 ≡ 1 + named_length (drop 1 slot)
-  named_end = rw (get_or-drop 1 slot 0 0, get_or-drop 1 slot 2 0) (omega arith)
-
   module _ (end : ℕ) (is-end : end ≡ 1 + named_length (drop 1 slot)) where
     pub first_byte_not_one : (get_or slot 0 0 ≡ 1 → ⊥) → packet_in slot ≡ []
     unfolding packet_in holds_packet
@@ -53,8 +47,8 @@ module _ (slot : List ℕ) (is_well_formed : first_bad_point (packet_in slot) �
     pub held_is_short : end ≤ slot_size
     unfolding holds_packet
     held_is_short =
-        let ab = and_both (eqb (get_or slot 0 0) 1 && leb (named_length (drop 1 slot)) (slot_size - 1)) (rest_zero slot (1 + named_length (drop 1 slot))) is_held in
-        let short : named_length (drop 1 slot) ≤ slot_size - 1 = leb-true _ _ (and_both (eqb (get_or slot 0 0) 1) (leb (named_length (drop 1 slot)) (slot_size - 1)) ab.0).1 in
+        let ab = and_parts (eqb (get_or slot 0 0) 1 && leb (named_length (drop 1 slot)) (slot_size - 1)) (rest_zero slot (1 + named_length (drop 1 slot))) is_held in
+        let short : named_length (drop 1 slot) ≤ slot_size - 1 = leb-true _ _ (and_parts (eqb (get_or slot 0 0) 1) (leb (named_length (drop 1 slot)) (slot_size - 1)) ab.0).1 in
         omega arith
 
     pub held_stands : packet_in slot ≡ take (end - 1) (drop 1 slot)
@@ -101,6 +95,6 @@ module _ (slot : List ℕ) (is_well_formed : first_bad_point (packet_in slot) �
   unfolding packet_in holds_packet
   found_packet_stands long =
       let holds = in_use (holds_packet slot) refl in
-      let rest = and_both (eqb (get_or slot 0 0) 1 && leb (named_length (drop 1 slot)) (slot_size - 1)) (rest_zero slot (1 + named_length (drop 1 slot))) holds in
-      let first = and_both (eqb (get_or slot 0 0) 1) (leb (named_length (drop 1 slot)) (slot_size - 1)) rest.0 in
+      let rest = and_parts (eqb (get_or slot 0 0) 1 && leb (named_length (drop 1 slot)) (slot_size - 1)) (rest_zero slot (1 + named_length (drop 1 slot))) holds in
+      let first = and_parts (eqb (get_or slot 0 0) 1) (leb (named_length (drop 1 slot)) (slot_size - 1)) rest.0 in
       slot_holds slot (named_length (drop 1 slot)) (eqb-true (get_or slot 0 0) 1 first.0) long rest.1 ∙ ap slot_of (sym (rw holds))

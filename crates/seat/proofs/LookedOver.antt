@@ -14,9 +14,6 @@ use Rattle.seat.specs.declared.Seat.{Seat}
 use Rattle.seat.specs.declared.stock.Stock.{Stock}
 
 module _ (choosing : Bool) (seat : Seat) (shelf : List ℕ) where
-  pub unsound_state : sound_state seat ≡ false → LookedOver choosing seat shelf None
-  unsound_state bad = rw bad
-
   pub broken_slots : sound_state seat ≡ true → whole_slots shelf ≡ false → LookedOver choosing seat shelf None
   unfolding sound_shelf
   broken_slots good broken = rw (good, broken)

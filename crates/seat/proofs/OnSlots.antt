@@ -6,10 +6,10 @@ use mathlib.Core.List.{List}
 use mathlib.Core.Logic.{◌⊎◌, inl, inr}
 use native.Mathlib.Omega.{arith}
 use lib.Dec.{eqb}
-use borrow.Author.Tests.{eq-eqb, eqb-true, not-true}
+use Rattle.std.proofs.lemmas.Bool.{eq-eqb, eqb-true, not-true, and_parts}
 use Rattle.answers.specs.declared.SeatNo.{SeatNo}
 use Rattle.vectors.specs.Vectors.{all}
-use Rattle.vectors.proofs.Every.{and_both, all_fails}
+use Rattle.vectors.proofs.Every.{all_fails}
 use Rattle.packet.specs.Packet.{sender_of}
 use Rattle.shelf.specs.Shelf.{slots, is_free}
 use Rattle.seat.specs.Stock.{packet_at, number_of, is_edit, on_slots, on_shelf}
@@ -41,7 +41,7 @@ module _ (packet : List ℕ) (sender : SeatNo) (number : ℕ) where
   pub edit_is_its_numbers : is_edit packet sender number ≡ true → ((sender_of packet).0 ≡ sender.0) × (number_of packet ≡ number)
   unfolding is_edit
   edit_is_its_numbers e =
-      let both = and_both (eqb (sender_of packet).0 sender.0) (eqb (number_of packet) number) e in
+      let both = and_parts (eqb (sender_of packet).0 sender.0) (eqb (number_of packet) number) e in
       (eqb-true (sender_of packet).0 sender.0 both.0, eqb-true (number_of packet) number both.1)
 
   pub its_numbers_are_the_edit : (sender_of packet).0 ≡ sender.0 → number_of packet ≡ number → is_edit packet sender number ≡ true

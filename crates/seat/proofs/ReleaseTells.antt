@@ -6,14 +6,13 @@ use mathlib.Core.List.{List, [], ◌∷◌}
 use lib.Arith.{lt_of_le-ne}
 use lib.Dec.{eqb, ltb}
 use lib.ListN.{length}
-use borrow.Author.Tests.{eqb-true, eqb-false}
+use Rattle.std.proofs.lemmas.Bool.{eqb-true, eqb-false, and_parts}
 use Rattle.answers.specs.Answers.{first_of}
 use Rattle.answers.specs.declared.Edit.{Edit}
 use Rattle.answers.specs.declared.Refusal.{Refusal}
 use Rattle.answers.specs.declared.Refusal.TheVariants.{NotSound, OutputTooShort, BarrierAbovePast}
 use Rattle.answers.specs.declared.Answer.{Answer}
 use Rattle.answers.specs.declared.Answer.TheVariants.{Done, NothingReady, Refused}
-use Rattle.vectors.proofs.Every.{and_both}
 use Rattle.packet.specs.Packet.{past_of, barrier_of}
 use Rattle.packet.specs.Reading.{body_of}
 use Rattle.shelf.specs.Shelf.{slots}
@@ -59,12 +58,12 @@ module _ (seat : Seat) (shelf out : List ℕ) where
   unfolding first_of
   tests_tell false none short above s n o a = refused NotSound
   tests_tell true true short above s n o a =
-      let both = and_both (sound_state seat) (sound_shelf seat shelf) s in
+      let both = and_parts (sound_state seat) (sound_shelf seat shelf) s in
       idle (record { sound = both.0; shelf_sound = both.1; none_chosen = eqb-true _ _ n })
   tests_tell true false true above s n o a = refused OutputTooShort
   tests_tell true false false true s n o a = refused BarrierAbovePast
   tests_tell true false false false s n o a =
-      let both = and_both (sound_state seat) (sound_shelf seat shelf) s in
+      let both = and_parts (sound_state seat) (sound_shelf seat shelf) s in
       done (edit_handed packet)
       (record {
         sound = both.0;

@@ -5,9 +5,10 @@ use mathlib.Core.Bool.{Bool, true, false, not, ◌&&◌, ◌||◌, true≢false}
 use mathlib.Core.List.{List}
 use native.Mathlib.Numerals.{add-one}
 use native.Mathlib.Omega.{arith}
+use Rattle.std.proofs.lemmas.Bool.{and_parts}
 use Rattle.answers.specs.declared.SeatNo.{SeatNo}
 use Rattle.vectors.specs.Vectors.{all}
-use Rattle.vectors.proofs.Every.{and_both, all_at, all_of}
+use Rattle.vectors.proofs.Every.{all_at, all_of}
 use Rattle.packet.specs.Packet.{sender_of}
 use Rattle.packet.specs.Reading.{read_of}
 use Rattle.shelf.specs.Shelf.{is_free}
@@ -88,7 +89,7 @@ module _ (n : ℕ) (shelf : List ℕ) where
 pub fewer_are_sound : (m n : ℕ) (seat : Seat) (shelf : List ℕ) → m ≤ n → sound_slots n seat shelf ≡ true → sound_slots m seat shelf ≡ true
 unfolding sound_slots distinct
 fewer_are_sound m n seat shelf fewer sound =
-    let both = and_both (all n (sound_slot seat shelf)) (all n (is_new shelf)) sound in
+    let both = and_parts (all n (sound_slot seat shelf)) (all n (is_new shelf)) sound in
     rw (all_of (sound_slot seat shelf) m (λ k h. all_at (sound_slot seat shelf) n k both.0 (omega arith)))
     (all_of (is_new shelf) m (λ k h. all_at (is_new shelf) n k both.1 (omega arith)))
 

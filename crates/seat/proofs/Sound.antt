@@ -7,12 +7,13 @@ use mathlib.Core.Logic.{⊎_elim}
 use native.Mathlib.Decide.{dec_lt}
 use native.Mathlib.Omega.{arith}
 use lib.ListN.{get_or}
+use Rattle.std.proofs.lemmas.Bool.{and_parts, cases_Bool}
 use Rattle.vectors.specs.Vectors.{zero_above, within}
-use Rattle.vectors.proofs.Every.{and_both, all_at, all_of}
+use Rattle.vectors.proofs.Every.{all_at, all_of}
 use Rattle.vectors.proofs.Tests.{within_at, within_of, zero_above_at, zero_above_of}
 use Rattle.window.specs.Window.{bit, none_above, SoundWindow}
 use Rattle.window.specs.declared.Window.{Window}
-use Rattle.window.proofs.Bits.{true_or_false, bit_none, highest_is_set}
+use Rattle.window.proofs.Bits.{bit_none, highest_is_set}
 use Rattle.window.proofs.Sound as window
 use Rattle.packet.specs.Writing.{in_range}
 use Rattle.packet.proofs.Writable.{is_in_range, range_holds}
@@ -35,13 +36,13 @@ module _ (seat : Seat) where
   pub sound_says : sound_state seat ≡ true → SoundState seat
   unfolding sound_state clear_above
   sound_says e =
-      let abc = and_both (in_range (header_of seat) && clear_above seat && within seat.barrier seat.past) (sound_windows seat) e in
-      let ab = and_both (in_range (header_of seat) && clear_above seat) (within seat.barrier seat.past) abc.0 in
-      let a = and_both (in_range (header_of seat)) (clear_above seat) ab.0 in
+      let abc = and_parts (in_range (header_of seat) && clear_above seat && within seat.barrier seat.past) (sound_windows seat) e in
+      let ab = and_parts (in_range (header_of seat) && clear_above seat) (within seat.barrier seat.past) abc.0 in
+      let a = and_parts (in_range (header_of seat)) (clear_above seat) ab.0 in
       let n = seat.n in
-      let pbr = and_both (zero_above n seat.past && zero_above n seat.barrier && zero_above n seat.run) (zero_above n seat.ahead) a.1 in
-      let pb = and_both (zero_above n seat.past && zero_above n seat.barrier) (zero_above n seat.run) pbr.0 in
-      let p = and_both (zero_above n seat.past) (zero_above n seat.barrier) pb.0 in
+      let pbr = and_parts (zero_above n seat.past && zero_above n seat.barrier && zero_above n seat.run) (zero_above n seat.ahead) a.1 in
+      let pb = and_parts (zero_above n seat.past && zero_above n seat.barrier) (zero_above n seat.run) pbr.0 in
+      let p = and_parts (zero_above n seat.past) (zero_above n seat.barrier) pb.0 in
       let range = is_in_range (header_of seat) a.0 in
       record {
         seats_low = range.seats_low;
@@ -107,7 +108,7 @@ window_beside_no_past past w none sound fits = (
   word_of_clear_bits 64 w.ahead fits
       (λ b h.
       ⊎_elim (λ (set : bit w.ahead b ≡ true). absurd (omega (arith, sound.marks_within b h set))) (λ (clear : bit w.ahead b ≡ false). clear)
-      (true_or_false (bit w.ahead b))),
+      (cases_Bool (bit w.ahead b))),
 )
 
 same_test : (a b : Bool) → (a ≡ true → b ≡ true) → (b ≡ true → a ≡ true) → a ≡ b
@@ -138,8 +139,8 @@ sound_without_marks seat none = same_test (within seat.run seat.past) (sound_win
 module _ (seat : Seat) (words : (k : ℕ) → get_or seat.ahead k 0 < 18446744073709551616) (range : in_range (header_of seat) ≡ true) where
   past_alone_says : (zero_above seat.n seat.past && within seat.barrier seat.past && sound_windows seat) ≡ true → sound_state seat ≡ true
   past_alone_says e =
-      let ab = and_both (zero_above seat.n seat.past && within seat.barrier seat.past) (sound_windows seat) e in
-      let a = and_both (zero_above seat.n seat.past) (within seat.barrier seat.past) ab.0 in
+      let ab = and_parts (zero_above seat.n seat.past && within seat.barrier seat.past) (sound_windows seat) e in
+      let a = and_parts (zero_above seat.n seat.past) (within seat.barrier seat.past) ab.0 in
       let in-it = is_in_range (header_of seat) range in
       let past_zero = zero_above_at seat.n seat.past a.0 in
       let ordered = within_at seat.barrier seat.past a.1 in

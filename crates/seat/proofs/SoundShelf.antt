@@ -6,9 +6,9 @@ use mathlib.Core.List.{List}
 use native.Mathlib.Decide.{ℕ_discrete, dec_lt}
 use native.Mathlib.Omega.{arith}
 use lib.Dec.{eqb}
-use borrow.Author.Tests.{eq-eqb, eqb-true, le-ltb, ltb-false, not-true}
+use Rattle.std.proofs.lemmas.Bool.{eq-eqb, eqb-true, le-ltb, ltb-false, not-true, and_parts}
 use Rattle.vectors.specs.Vectors.{all, entry}
-use Rattle.vectors.proofs.Every.{and_both, all_at, all_of}
+use Rattle.vectors.proofs.Every.{all_at, all_of}
 use Rattle.packet.specs.Packet.{seats_of, sender_of, kind_of, past_of, first_bad_point}
 use Rattle.packet.specs.Reading.{headed, header_of, read_of}
 use Rattle.packet.specs.declared.Heading.{Heading}
@@ -39,9 +39,9 @@ module _ (seat : Seat) (packet : List ℕ) where
       let above = above_own_count seat (past_of packet) in
       let repeated = is_handed seat (sender_of packet) (number_of packet) in
       let far = too_far_ahead seat (sender_of packet) (number_of packet) in
-      let to-far = and_both (not session && not above && not repeated) (not far) passed in
-      let to-repeated = and_both (not session && not above) (not repeated) to-far.0 in
-      let to-above = and_both (not session) (not above) to-repeated.0 in
+      let to-far = and_parts (not session && not above && not repeated) (not far) passed in
+      let to-repeated = and_parts (not session && not above) (not repeated) to-far.0 in
+      let to-above = and_parts (not session) (not above) to-repeated.0 in
       record {
         is_well_formed = is_well_formed;
         same_session = eqb-true (seats_of packet) seat.n (sym (not-not (eqb (seats_of packet) seat.n)) ∙ to-above.0);
@@ -80,10 +80,10 @@ module _ (seat : Seat) (shelf : List ℕ) where
       }
     where
       both : (whole_slots shelf ≡ true) × (sound_slots (slots shelf) seat shelf ≡ true)
-      both = and_both (whole_slots shelf) (sound_slots (slots shelf) seat shelf) sound
+      both = and_parts (whole_slots shelf) (sound_slots (slots shelf) seat shelf) sound
 
       slot_tests : (all (slots shelf) (sound_slot seat shelf) ≡ true) × (all (slots shelf) (is_new shelf) ≡ true)
-      slot_tests = and_both (all (slots shelf) (sound_slot seat shelf)) (all (slots shelf) (is_new shelf)) both.1
+      slot_tests = and_parts (all (slots shelf) (sound_slot seat shelf)) (all (slots shelf) (is_new shelf)) both.1
 
       passing : (i : ℕ) → i < slots shelf → is_free shelf i ≡ false → Passing seat (packet_at shelf i)
       passing i h used = passes_says seat (packet_at shelf i) (rw used at (all_at (sound_slot seat shelf) (slots shelf) i slot_tests.0 h))

@@ -24,7 +24,7 @@ use taking::take;
 // The highest count.
 pub const COUNT_MOST: u16 = 65535;
 
-// The state by value. Entry k - 1 of each array is seat k's.
+// The state by value, in document 01's four arrays: tests go over a whole array at once. Entry k - 1 of each is seat k's.
 #[derive(Clone, Copy)]
 pub struct Seat {
     pub n: u8,

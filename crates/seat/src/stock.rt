@@ -29,7 +29,8 @@ pub struct Stock {
     pub first: Option<Ready>,
 }
 
-// Where the packet on a slot ends, as its own fields say. The callers hand over a whole slot.
+// Where the packet on a slot ends, as its own fields say. The callers hand over a whole slot, here and below: what cuts it
+// out of the shelf answers slices, so that its length is no part of its type.
 fn end_in(slot: &[u8]) -> usize
     requires { length slot.now ≡ slot_size }
     ensures { result ≡ 1 + named_length (drop 1 slot.now) }
@@ -39,7 +40,8 @@ fn end_in(slot: &[u8]) -> usize
     1 + HEAD_LEN + 4 * seats + body
 }
 
-// The part of a slot that holds its packet; empty where the slot holds none. The callers hand over a whole slot.
+// The part of a slot that holds its packet; empty where the slot holds none, as its definition has it, and reading refuses
+// that. The callers hand over a whole slot.
 pub fn packet_in(slot: &[u8]) -> &[u8]
     requires { length slot.now ≡ slot_size }
     ensures { result.now ≡ packet_in slot.now }

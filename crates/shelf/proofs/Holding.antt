@@ -10,8 +10,8 @@ use lib.Seq.{length-take-le, take_at, drop_at}
 use borrow.Rule.Slice.PartMut.{put_mid, same_len_mid, Post-is}
 use Rattle.std.proofs.lemmas.Slice.{take-put_mid}
 use Rattle.shelf.specs.Shelf.{slot_size, slots, slot_at, all_zero, is_free, slot_of, laid, free_slot, rest_zero}
-use Rattle.shelf.proofs.Zeros.{one_byte_not_zero, all_zero_are_zeros, zeros_are_all_zero, part_is_all_zero, zeros_to_the_end}
-use Rattle.shelf.proofs.Slots.{length_slot_at, laid_reads_back}
+use Rattle.shelf.proofs.Zeros.{one_byte_not_zero, zeros_are_all_zero, part_is_all_zero, zeros_to_the_end}
+use Rattle.shelf.proofs.Slots.{laid_reads_back}
 
 -- ---- a free slot
 
@@ -23,13 +23,8 @@ pub free_slot_is_zero : all_zero free_slot ≡ true
 unfolding free_slot
 free_slot_is_zero = zeros_are_all_zero slot_size
 
-module _ (shelf : List ℕ) (i : ℕ) (there : i < slots shelf) where
-  pub free_is_free_slot : is_free shelf i ≡ true → slot_at shelf i ≡ free_slot
-  unfolding free_slot
-  free_is_free_slot free = all_zero_are_zeros (slot_at shelf i) free ∙ ap (λ (n : ℕ). replicate n 0) (length_slot_at shelf i there)
-
-  pub cleared_is_free : is_free (laid shelf i free_slot) i ≡ true
-  cleared_is_free = ap all_zero (laid_reads_back shelf i free_slot there length_free_slot) ∙ free_slot_is_zero
+pub cleared_is_free : (shelf : List ℕ) (i : ℕ) → i < slots shelf → is_free (laid shelf i free_slot) i ≡ true
+cleared_is_free shelf i there = ap all_zero (laid_reads_back shelf i free_slot there length_free_slot) ∙ free_slot_is_zero
 
 pub zeroed_shelf_is_free : (n i : ℕ) → is_free (replicate n 0) i ≡ true
 unfolding slot_at

@@ -1,7 +1,7 @@
 -- Laws of `lowest`: what the first index of which a test holds is, and that no other index is it.
 use Prim.Native.Nat.{ℕ, zero, suc, ◌≤◌, ◌<◌}
 use mathlib.Core.Path.{◌≡◌, refl, sym, ap, ◌∙◌}
-use mathlib.Core.Bool.{Bool, true, false, cond, true≢false}
+use mathlib.Core.Bool.{Bool, true, false, cond}
 use native.Mathlib.Nat.{not-suc-le-zero, le_of_suc-le-suc}
 use native.Mathlib.Omega.{arith}
 use borrow.Author.Tests.{ltb-true, ltb-false, lt-ltb, le-ltb}
@@ -64,17 +64,13 @@ found_is_lowest n test (Some i) found =
 
 -- ---- an index below n, or none
 
-no_index : (n i : ℕ) (below : Bool) → ltb i n ≡ below → is_some (cond below (Some i) None) ≡ false → n ≤ i
-no_index n i true e none = absurd (true≢false none)
-no_index n i false e none = ltb-false i n e
-
-an_index : (n i : ℕ) (below : Bool) → ltb i n ≡ below → is_some (cond below (Some i) None) ≡ true → i < n
-an_index n i true e some = ltb-true i n e
-an_index n i false e some = absurd (true≢false (sym some))
+some_where_below : (i : ℕ) (below : Bool) → is_some (cond below (Some i) None) ≡ below
+some_where_below i true = refl
+some_where_below i false = refl
 
 same_index : (i at : ℕ) (below : Bool) → cond below (Some i) None ≡ Some at → at ≡ i
 same_index i at true e = cc
-same_index i at false e = let no : false ≡ true = ap is_some e in absurd (true≢false (sym no))
+same_index i at false e = cc
 
 pub none_of : (n i : ℕ) → n ≤ i → slot_or_none n i ≡ None
 none_of n i h = rw (le-ltb i n h)
@@ -84,10 +80,10 @@ some_of n i h = rw (lt-ltb i n h)
 
 module _ (n i : ℕ) (r : Option ℕ) (is : r ≡ slot_or_none n i) where
   pub none_is_past : is_some r ≡ false → n ≤ i
-  none_is_past none = no_index n i (ltb i n) refl (sym (ap is_some is) ∙ none)
+  none_is_past none = ltb-false i n (sym (ap is_some is ∙ some_where_below i _) ∙ none)
 
   pub some_is_below : is_some r ≡ true → i < n
-  some_is_below some = an_index n i (ltb i n) refl (sym (ap is_some is) ∙ some)
+  some_is_below some = ltb-true i n (sym (ap is_some is ∙ some_where_below i _) ∙ some)
 
   pub some_is_it : (at : ℕ) → r ≡ Some at → (at ≡ i) × (at < n)
   some_is_it at e =

@@ -22,7 +22,7 @@ use Rattle.lines.proofs.Cut.{cut_first, no_feed_none}
 use Rattle.steps.specs.Session.{Session, step_told, opened}
 use Rattle.steps.specs.Memory.{session_in, Bounded, Walks}
 use Rattle.steps.specs.Printed.{line_of, walked, bad_first, walked_from, printed_lines, printed}
-use Rattle.steps.specs.Course.{line_in, for_lines, still, Ready, WalkingAs, EndedAs, KeptMore, LineTaken}
+use Rattle.steps.specs.Course.{line_in, for_lines, still, number_at, BoundedAt, Ready, FreshAt, KeptMore, LineTaken}
 use Rattle.steps.specs.declared.list.Line.{Line}
 use Rattle.steps.specs.declared.list.Stage.{Stage}
 use Rattle.steps.specs.declared.list.Stage.TheVariants.{First, Walking, Ended}
@@ -42,20 +42,20 @@ wrote_prints {out} {after} {bytes} {at} {next} wrote room =
 -- ---- a line after the first
 
 pub step_taken : (number : ℕ) (line : List ℕ) (before : Session) {shelves packets : List ℕ} (walked-on : Walked) (step : Option Step) (course : Course) → step ≡ read_step line
-    → Walks (step_told before step) walked-on shelves packets → WalkingAs (number + 1) walked-on.walk course
+    → Walks (step_told before step) walked-on shelves packets → FreshAt (Walking (number + 1) walked-on.walk) course
     → LineTaken number (λ lines. walked number before (line ∷ lines)) (record { course = course; line = Some (number, walked-on.report) }) shelves packets
-unfolding walked
+unfolding for_lines walked
 step_taken number line before {shelves} {packets} walked-on step course is so goes-on =
     record {
       prints = λ lines.
-          ap (λ (l : List ℕ). line_of number walked-on.report ++ l) (goes-on.walks shelves packets lines)
+          ap (λ (l : List ℕ). line_of number walked-on.report ++ l) (ap (λ (s : Stage). for_lines s shelves packets lines) goes-on.stage_is)
           ∙ (λ p. line_of number (so.report_is p) ++ walked (add-one number p) (so.session_is p) lines)
           ∙ (λ p. line_of number (step_told before (is p)).report ++ walked (suc number) (step_told before (is p)).session lines);
-      no_more = goes-on.walks shelves packets [];
+      no_more = ap (λ (s : Stage). for_lines s shelves packets []) goes-on.stage_is;
       fresh = goes-on.fresh;
       line_long = goes-on.line_long;
-      bounded = subst Bounded (sym goes-on.walk_is) so.bounded;
-      counts = omega (arith, goes-on.number_is);
+      bounded = subst BoundedAt (sym goes-on.stage_is) so.bounded;
+      counts = omega (arith, ap number_at goes-on.stage_is);
     }
 
 -- ---- line one
@@ -81,84 +81,99 @@ taken_alike alike so =
       counts = so.counts;
     }
 
+pub taken_at : {number other : ℕ} {before : List (List ℕ) → List ℕ} {answered : Answered} {shelves packets : List ℕ} → number ≡ other
+    → LineTaken number before answered shelves packets → LineTaken other before answered shelves packets
+taken_at {before = before} {answered = answered} {shelves = shelves} {packets = packets} is so =
+    subst (λ (number : ℕ). LineTaken number before answered shelves packets) is so
+
 -- a bad first line ends the list
-pub list_refused : {number : ℕ} {walk : Walk} {course : Course} {shelves packets : List ℕ} → EndedAs walk course → Bounded walk
+pub list_refused : {number : ℕ} {course : Course} {shelves packets : List ℕ} → FreshAt Ended course
     → LineTaken number (λ lines. bad_first) (record { course = course; line = Some (0, bare 21) }) shelves packets
-list_refused {shelves = shelves} {packets = packets} ended bounded =
+unfolding for_lines
+list_refused {shelves = shelves} {packets = packets} ended =
     record {
-      prints = λ lines. ap (λ (l : List ℕ). bad_first ++ l) (ended.nothing shelves packets lines) ∙ append-nil bad_first;
-      no_more = ended.nothing shelves packets [];
+      prints = λ lines. ap (λ (l : List ℕ). bad_first ++ l) (ap (λ (s : Stage). for_lines s shelves packets lines) ended.stage_is) ∙ append-nil bad_first;
+      no_more = ap (λ (s : Stage). for_lines s shelves packets []) ended.stage_is;
       fresh = ended.fresh;
       line_long = ended.line_long;
-      bounded = subst Bounded (sym ended.walk_is) bounded;
-      counts = omega (arith, ended.number_is);
+      bounded = subst BoundedAt (sym ended.stage_is) tt;
+      counts = omega (arith, ap number_at ended.stage_is);
     }
 
 -- line one is good
-pub list_begun : (session : Session) (number : ℕ) (course : Course) (walk : Walk) (packets : List ℕ) {shelves : List ℕ} → WalkingAs 1 walk course → Bounded walk
+pub list_begun : (session : Session) (number : ℕ) (course : Course) (walk : Walk) (packets : List ℕ) {shelves : List ℕ} → FreshAt (Walking 1 walk) course → Bounded walk
     → session_in walk shelves packets ≡ session → LineTaken number (walked 1 session) (record { course = course; line = None }) shelves packets
-unfolding walked
+unfolding for_lines walked
 list_begun session number course walk packets {shelves} goes-on bounded is =
     record {
-      prints = λ lines. goes-on.walks shelves packets lines ∙ ap (λ (s : Session). walked 1 s lines) is;
-      no_more = goes-on.walks shelves packets [];
+      prints = λ lines. ap (λ (s : Stage). for_lines s shelves packets lines) goes-on.stage_is ∙ ap (λ (s : Session). walked 1 s lines) is;
+      no_more = ap (λ (s : Stage). for_lines s shelves packets []) goes-on.stage_is;
       fresh = goes-on.fresh;
       line_long = goes-on.line_long;
-      bounded = subst Bounded (sym goes-on.walk_is) bounded;
-      counts = omega (arith, goes-on.number_is);
+      bounded = subst BoundedAt (sym goes-on.stage_is) bounded;
+      counts = omega (arith, ap number_at goes-on.stage_is);
     }
 
 -- nothing has come, and all is to be printed
-module _ (line : Line) (walk : Walk) (fresh : line.length ≡ 0) (long : length line.bytes ≡ line_most) (bounded : Bounded walk) where
-  none : line_in line ≡ []
-  none = λ p. take (fresh p) line.bytes
+module _ (course : Course) (first : FreshAt First course) where
+  none : line_in course.line ≡ []
+  none = λ p. take (first.fresh p) course.line.bytes
 
-  pub start_ready : Ready (record { stage = First; number = 0; line = line; walk = walk })
-  start_ready = record { bounded = bounded; short = omega arith; long = long; no_feed = subst NoFeed (sym none) no_feed_none }
+  pub start_ready : Ready course
+  start_ready =
+      record {
+        bounded = subst BoundedAt (sym first.stage_is) tt;
+        short = omega (arith, first.fresh);
+        long = first.line_long;
+        no_feed = subst NoFeed (sym none) no_feed_none;
+      }
 
-  pub start_prints : (shelves packets text : List ℕ) → still (record { stage = First; number = 0; line = line; walk = walk }) shelves packets text ≡ printed text
+  pub start_prints : (shelves packets text : List ℕ) → still course shelves packets text ≡ printed text
   unfolding still for_lines
-  start_prints shelves packets text = λ p. printed_lines (lines_of (none p ++ text))
+  start_prints shelves packets text = λ p. for_lines (first.stage_is p) shelves packets (lines_of (none p ++ text))
 
 -- ---- a line, whichever it is
 
-module _ (stage : Stage) (number : ℕ) (session : Session) (line : List ℕ) (lines : List (List ℕ)) where
-  pub first_line_is : stage ≡ First → walked_from (read_opening line) lines ≡ for_lines stage number session (line ∷ lines)
+module _ (stage : Stage) (shelves packets line : List ℕ) (lines : List (List ℕ)) where
+  pub first_line_is : stage ≡ First → walked_from (read_opening line) lines ≡ for_lines stage shelves packets (line ∷ lines)
   unfolding for_lines printed_lines
-  first_line_is is = λ p. for_lines (sym is p) number session (line ∷ lines)
+  first_line_is is = λ p. for_lines (sym is p) shelves packets (line ∷ lines)
 
-  pub walking_line : stage ≡ Walking → walked number session (line ∷ lines) ≡ for_lines stage number session (line ∷ lines)
+  pub walking_line : (number : ℕ) (walk : Walk) → stage ≡ Walking number walk
+      → walked number (session_in walk shelves packets) (line ∷ lines) ≡ for_lines stage shelves packets (line ∷ lines)
   unfolding for_lines
-  walking_line is = λ p. for_lines (sym is p) number session (line ∷ lines)
+  walking_line number walk is = λ p. for_lines (sym is p) shelves packets (line ∷ lines)
 
-  pub ended_line : stage ≡ Ended → [] ≡ for_lines stage number session (line ∷ lines)
+  pub ended_line : stage ≡ Ended → [] ≡ for_lines stage shelves packets (line ∷ lines)
   unfolding for_lines
-  ended_line is = λ p. for_lines (sym is p) number session (line ∷ lines)
+  ended_line is = λ p. for_lines (sym is p) shelves packets (line ∷ lines)
 
 -- a list that has ended goes on with nothing
-pub list_ended : {number : ℕ} {before : List (List ℕ) → List ℕ} {walk : Walk} {course : Course} {shelves packets : List ℕ} → EndedAs walk course → Bounded walk
+pub list_ended : {number : ℕ} {before : List (List ℕ) → List ℕ} {course : Course} {shelves packets : List ℕ} → FreshAt Ended course
     → ((lines : List (List ℕ)) → [] ≡ before lines) → LineTaken number before (record { course = course; line = None }) shelves packets
-list_ended {shelves = shelves} {packets = packets} ended bounded none =
+unfolding for_lines
+list_ended {shelves = shelves} {packets = packets} ended none =
     record {
-      prints = λ lines. ended.nothing shelves packets lines ∙ none lines;
-      no_more = ended.nothing shelves packets [];
+      prints = λ lines. ap (λ (s : Stage). for_lines s shelves packets lines) ended.stage_is ∙ none lines;
+      no_more = ap (λ (s : Stage). for_lines s shelves packets []) ended.stage_is;
       fresh = ended.fresh;
       line_long = ended.line_long;
-      bounded = subst Bounded (sym ended.walk_is) bounded;
-      counts = omega (arith, ended.number_is);
+      bounded = subst BoundedAt (sym ended.stage_is) tt;
+      counts = omega (arith, ap number_at ended.stage_is);
     }
 
 -- ---- a line that is kept only so far
 
 -- a line that is too long is printed like any other that is
-long_alike : (stage : Stage) (number : ℕ) (session : Session) (one other : List ℕ) (lines : List (List ℕ)) → line_most ≤ length one → line_most ≤ length other
-    → for_lines stage number session (one ∷ lines) ≡ for_lines stage number session (other ∷ lines)
+long_alike : (stage : Stage) (shelves packets one other : List ℕ) (lines : List (List ℕ)) → line_most ≤ length one → line_most ≤ length other
+    → for_lines stage shelves packets (one ∷ lines) ≡ for_lines stage shelves packets (other ∷ lines)
 unfolding for_lines printed_lines walked
-long_alike First number session one other lines long-one long-other =
+long_alike First shelves packets one other lines long-one long-other =
     ap (λ (o : Option Opening). walked_from o lines) (long_opening one long-one ∙ sym (long_opening other long-other))
-long_alike Walking number session one other lines long-one long-other =
+long_alike (Walking number walk) shelves packets one other lines long-one long-other =
+    let session = session_in walk shelves packets in
     ap (λ (s : Option Step). line_of number (step_told session s).report ++ walked (suc number) (step_told session s).session lines) (long_step one long-one ∙ sym (long_step other long-other))
-long_alike Ended number session one other lines long-one long-other = refl
+long_alike Ended shelves packets one other lines long-one long-other = refl
 
 pub no_feed_start : (p : List ℕ) (n : ℕ) → NoFeed p → NoFeed (take n p)
 no_feed_start p n so =
@@ -168,16 +183,16 @@ no_feed_start p n so =
           so.none k (omega (arith, length-take n p)) (sym (get_or-take n p k 0 below) ∙ e);
     }
 
-pub kept_alike : (stage : Stage) (number : ℕ) (session : Session) (p text : List ℕ) → NoFeed p
-    → for_lines stage number session (lines_of (take line_most p ++ text)) ≡ for_lines stage number session (lines_of (p ++ text))
-kept_alike stage number session p text so =
+pub kept_alike : (stage : Stage) (shelves packets p text : List ℕ) → NoFeed p
+    → for_lines stage shelves packets (lines_of (take line_most p ++ text)) ≡ for_lines stage shelves packets (lines_of (p ++ text))
+kept_alike stage shelves packets p text so =
     elim (dec_le (length p) line_most) [
-      | yes short ↦ ap (λ (l : List ℕ). for_lines stage number session (lines_of (l ++ text))) (take_all line_most p short)
+      | yes short ↦ ap (λ (l : List ℕ). for_lines stage shelves packets (lines_of (l ++ text))) (take_all line_most p short)
       | no long ↦ let kept : length (take line_most p) ≡ line_most = length-take-le line_most p (omega arith) in
-          ap (for_lines stage number session) (cut_first (take line_most p) text (no_feed_start p line_most so) (omega arith))
-          ∙ long_alike stage number session (take line_most p ++ first_line text) (p ++ first_line text) (other_lines text)
+          ap (for_lines stage shelves packets) (cut_first (take line_most p) text (no_feed_start p line_most so) (omega arith))
+          ∙ long_alike stage shelves packets (take line_most p ++ first_line text) (p ++ first_line text) (other_lines text)
           (omega (arith, length-append (take line_most p) (first_line text))) (omega (arith, length-append p (first_line text)))
-          ∙ sym (ap (for_lines stage number session) (cut_first p text so (omega arith)))
+          ∙ sym (ap (for_lines stage shelves packets) (cut_first p text so (omega arith)))
     ]
 
 -- as much of the text as there is room for

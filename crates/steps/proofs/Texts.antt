@@ -13,10 +13,9 @@ use Rattle.lines.specs.Lines.{line_feed, lines_of, words, read_numbers}
 use Rattle.lines.specs.Kept.{line_most, NoFeed}
 use Rattle.lines.specs.AnswerLine.{answer_most, Wrote}
 use Rattle.lines.proofs.Cut.{cut_feed, cut_last, no_feed_none}
-use Rattle.steps.specs.Session.{Session}
 use Rattle.steps.specs.Memory.{session_in}
 use Rattle.steps.specs.Printed.{walked, printed_lines}
-use Rattle.steps.specs.Course.{text_of, line_in, for_lines, for_course, still, Ready, KeptMore, CourseKept, LineTaken, PieceTaken, done_at, is_done, Finished}
+use Rattle.steps.specs.Course.{text_of, line_in, number_in, for_lines, for_course, still, Ready, KeptMore, CourseKept, LineTaken, PieceTaken, done_at, is_done, Finished}
 use Rattle.steps.specs.declared.list.Line.{Line}
 use Rattle.steps.specs.declared.list.Stage.{Stage}
 use Rattle.steps.specs.declared.list.Stage.TheVariants.{First, Walking, Ended}
@@ -62,7 +61,7 @@ no_feed_at_all text at = record { none = at.not_before }
 
 module _ (course : Course) (text : List ℕ) (next : Line) (ready : Ready course) (free : NoFeed text) (kept : KeptMore course.line text next) where
   abbrev after : Course
-  after = record { stage = course.stage; number = course.number; line = next; walk = course.walk }
+  after = record { stage = course.stage; line = next }
 
   line_no_feed : NoFeed (line_in course.line ++ text)
   line_no_feed = no_feed_joined _ _ ready.no_feed free
@@ -70,10 +69,9 @@ module _ (course : Course) (text : List ℕ) (next : Line) (ready : Ready course
   kept_still : (shelves packets rest : List ℕ) → still after shelves packets rest ≡ still course shelves packets (text ++ rest)
   unfolding still
   kept_still shelves packets rest =
-      let session = session_in course.walk shelves packets in
-      ap (λ (l : List ℕ). for_lines course.stage course.number session (lines_of (l ++ rest))) kept.line_is
-      ∙ kept_alike course.stage course.number session (line_in course.line ++ text) rest line_no_feed
-      ∙ ap (λ (l : List ℕ). for_lines course.stage course.number session (lines_of l)) (append_assoc (line_in course.line) text rest)
+      ap (λ (l : List ℕ). for_lines course.stage shelves packets (lines_of (l ++ rest))) kept.line_is
+      ∙ kept_alike course.stage shelves packets (line_in course.line ++ text) rest line_no_feed
+      ∙ ap (λ (l : List ℕ). for_lines course.stage shelves packets (lines_of l)) (append_assoc (line_in course.line) text rest)
 
   pub course_kept : CourseKept course text after
   course_kept =
@@ -95,7 +93,7 @@ pub record Going (course : Course) (text shelves₀ packets₀ : List ℕ) (room
   pub prints : (later : List ℕ) → take end out ++ still current shelves packets (rest ++ later) ≡ still course shelves₀ packets₀ (text ++ later)
   pub ready : Ready current
   pub high : end + answer_most * length rest ≤ answer_most * length text
-  pub counts : current.number + length rest ≤ course.number + length text
+  pub counts : number_in current + length rest ≤ number_in course + length text
   pub same_room : length out ≡ room
 
 module _ (course : Course) (text shelves₀ packets₀ out₀ : List ℕ) where
@@ -105,7 +103,7 @@ module _ (course : Course) (text shelves₀ packets₀ out₀ : List ℕ) where
   module _ (shelves packets out : List ℕ) (current mid : Course) (end place : ℕ) (rest : List ℕ) (answered : Answered) (shelves-left packets-left : List ℕ) (next : ℕ) (out-left : List ℕ)
       (so : Going course text shelves₀ packets₀ (length out₀) shelves packets out current end rest)
       (there : place < length rest) (at : FirstAt line_feed rest place) (kept : CourseKept current (take place rest) mid)
-      (line : LineTaken mid.number (λ lines. for_course mid shelves packets (line_in mid.line ∷ lines)) answered shelves-left packets-left)
+      (line : LineTaken (number_in mid) (λ lines. for_course mid shelves packets (line_in mid.line ∷ lines)) answered shelves-left packets-left)
       (wrote : Wrote out end (text_of answered.line) next out-left) (short : length (text_of answered.line) ≤ answer_most)
       (enough : answer_most * length text ≤ length out₀) where
     pub behind_shorter : length (behind rest place) + 1 ≤ length rest
@@ -158,26 +156,26 @@ module _ (course : Course) (text shelves₀ packets₀ out₀ : List ℕ) where
 never : {A : Type 0} → ◌≡◌ {A = Bool} false true → A
 never so = absurd (let z : ◌≡◌ {A = ℕ} 0 1 = cc in omega arith)
 
-module _ (number : ℕ) (session : Session) (kept : ℕ) (bytes : List ℕ) where
-  nothing_left : (stage : Stage) → done_at stage kept ≡ true → for_lines stage number session (lines_of (take kept bytes ++ [])) ≡ []
+module _ (shelves packets : List ℕ) (kept : ℕ) (bytes : List ℕ) where
+  nothing_left : (stage : Stage) → done_at stage kept ≡ true → for_lines stage shelves packets (lines_of (take kept bytes ++ [])) ≡ []
   unfolding for_lines walked lines_of
   nothing_left First so = never so
-  nothing_left Walking so = λ p. walked number session (lines_of (take (eqb-true kept 0 so p) bytes ++ []))
+  nothing_left (Walking number walk) so = λ p. walked number (session_in walk shelves packets) (lines_of (take (eqb-true kept 0 so p) bytes ++ []))
   nothing_left Ended so = refl
 
   module _ (no_feed : NoFeed (take kept bytes)) (short : kept ≤ length bytes) where
     some_left : 0 < length (take kept bytes) → (stage : Stage)
-        → for_lines stage number session (take kept bytes ∷ []) ≡ for_lines stage number session (lines_of (take kept bytes ++ []))
+        → for_lines stage shelves packets (take kept bytes ∷ []) ≡ for_lines stage shelves packets (lines_of (take kept bytes ++ []))
     some_left some stage =
-        ap (for_lines stage number session) (sym (ap lines_of (append-nil (take kept bytes)) ∙ cut_last (take kept bytes) no_feed some))
+        ap (for_lines stage shelves packets) (sym (ap lines_of (append-nil (take kept bytes)) ∙ cut_last (take kept bytes) no_feed some))
 
     kept_some : eqb kept 0 ≡ false → 0 < length (take kept bytes)
     kept_some so = let other = eqb-false kept 0 so in omega (arith, length-take-le kept bytes short)
 
     last_line : (stage : Stage) → done_at stage kept ≡ false
-        → for_lines stage number session (take kept bytes ∷ []) ≡ for_lines stage number session (lines_of (take kept bytes ++ []))
+        → for_lines stage shelves packets (take kept bytes ∷ []) ≡ for_lines stage shelves packets (lines_of (take kept bytes ++ []))
     unfolding for_lines printed_lines lines_of read_numbers words
-    last_line Walking so = some_left (kept_some so) Walking
+    last_line (Walking number walk) so = some_left (kept_some so) (Walking number walk)
     last_line Ended so = some_left (kept_some so) Ended
     last_line First so =
         elim (dec_lt 0 (length (take kept bytes))) [
@@ -191,12 +189,12 @@ module _ (course : Course) (shelves packets : List ℕ) where
   unfolding still
   done_finished out so =
       record {
-        prints = sym (nothing_left course.number (session_in course.walk shelves packets) course.line.length course.line.bytes course.stage so);
+        prints = sym (nothing_left shelves packets course.line.length course.line.bytes course.stage so);
         high = omega arith;
       }
 
   pub line_finished : (out : List ℕ) (answered : Answered) (shelves-left packets-left : List ℕ) (end : ℕ) (out-left : List ℕ) → Ready course → is_done course ≡ false
-      → LineTaken course.number (λ lines. for_course course shelves packets (line_in course.line ∷ lines)) answered shelves-left packets-left
+      → LineTaken (number_in course) (λ lines. for_course course shelves packets (line_in course.line ∷ lines)) answered shelves-left packets-left
       → Wrote out 0 (text_of answered.line) end out-left → length (text_of answered.line) ≤ answer_most → answer_most ≤ length out
       → Finished course shelves packets end out-left
   unfolding still
@@ -207,6 +205,6 @@ module _ (course : Course) (shelves packets : List ℕ) where
             ∙ sym (append-nil (text_of answered.line))
             ∙ (λ p. text_of answered.line ++ sym line.no_more p)
             ∙ line.prints []
-            ∙ last_line course.number (session_in course.walk shelves packets) course.line.length course.line.bytes ready.no_feed (omega (arith, ready.short, ready.long)) course.stage so;
+            ∙ last_line shelves packets course.line.length course.line.bytes ready.no_feed (omega (arith, ready.short, ready.long)) course.stage so;
         high = omega (arith, wrote.ends);
       }

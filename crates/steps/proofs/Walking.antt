@@ -5,14 +5,13 @@ use mathlib.Core.Path.{◌≡◌, refl, subst, sym, ap, ◌∙◌}
 use mathlib.Core.List.{List, []}
 use native.Mathlib.Nat.{add-zero}
 use native.Mathlib.Omega.{arith}
-use borrow.Author.Tests.{leb-true, lt-ltb, le-ltb}
+use Rattle.std.proofs.lemmas.Bool.{leb-true, lt-ltb, le-ltb, and_parts}
 use lib.Dec.{leb, ltb}
 use borrow.Rule.Slice.PartMut.{put_mid}
 use lib.ListN.{length, take, drop}
 use Rattle.answers.specs.Answers.{bare, report}
 use Rattle.answers.specs.declared.Answer.{Answer}
 use Rattle.answers.specs.declared.Answer.TheVariants.{Opened, Done, Shelved, NothingReady, Refused}
-use Rattle.vectors.proofs.Every.{and_both}
 use Rattle.packet.specs.Packet.{past_of, barrier_of}
 use Rattle.seat.specs.Sending.{seat_after}
 use Rattle.seat.specs.HandingOver.{hand_over}
@@ -38,7 +37,7 @@ steps_in_session NothingReady next seat same = refl
 steps_in_session (Refused refusal) next seat same = refl
 
 pub seated_is : (walk : Walk) (k : ℕ) → is_seated walk k ≡ true → (1 ≤ k) × (k ≤ walk.n)
-seated_is walk k so = let both = and_both (leb 1 k) (leb k walk.n) so in (leb-true 1 k both.0, leb-true k walk.n both.1)
+seated_is walk k so = let both = and_parts (leb 1 k) (leb k walk.n) so in (leb-true 1 k both.0, leb-true k walk.n both.1)
 
 pub is_seated_lem : (walk : Walk) (shelves packets : List ℕ) (k : ℕ) → is_seated walk k ≡ true → seated (session_in walk shelves packets) k ≡ true
 unfolding session_in

@@ -6,8 +6,6 @@ use lib.ListN.{take}
 use native.Mathlib.Omega.{arith}
 use mathlib.Core.Bool.{true}
 use Rattle.lines.specs.Lines.{lines_of}
-use Rattle.steps.specs.Session.{Session}
-use Rattle.steps.specs.Memory.{session_in}
 use Rattle.steps.specs.Printed.{printed}
 use Rattle.steps.specs.Course.{line_in, for_lines, still, is_over}
 use Rattle.steps.specs.WholeInput.{Runs, starts, takes, EndsEarly, WholeInput}
@@ -31,15 +29,15 @@ whole_input input course shelves packets output end out run finished =
     ∙ so_far input course shelves packets output run []
     ∙ ap (λ (l : List ℕ). printed l) (append-nil input)
 
-nothing_more : (number : ℕ) (session : Session) (lines : List (List ℕ)) (stage : Stage) → is_over stage ≡ true → for_lines stage number session lines ≡ []
+nothing_more : (shelves packets : List ℕ) (lines : List (List ℕ)) (stage : Stage) → is_over stage ≡ true → for_lines stage shelves packets lines ≡ []
 unfolding for_lines
-nothing_more number session lines First so = absurd (let z : ◌≡◌ {A = ℕ} 0 1 = cc in omega arith)
-nothing_more number session lines Walking so = absurd (let z : ◌≡◌ {A = ℕ} 0 1 = cc in omega arith)
-nothing_more number session lines Ended so = refl
+nothing_more shelves packets lines First so = absurd (let z : ◌≡◌ {A = ℕ} 0 1 = cc in omega arith)
+nothing_more shelves packets lines (Walking number walk) so = absurd (let z : ◌≡◌ {A = ℕ} 0 1 = cc in omega arith)
+nothing_more shelves packets lines Ended so = refl
 
 pub ends_early : EndsEarly
 unfolding still
 ends_early input course shelves packets output run over rest =
     sym (append-nil output)
-    ∙ ap (λ (l : List ℕ). output ++ l) (sym (nothing_more course.number (session_in course.walk shelves packets) (lines_of (line_in course.line ++ rest)) course.stage over))
+    ∙ ap (λ (l : List ℕ). output ++ l) (sym (nothing_more shelves packets (lines_of (line_in course.line ++ rest)) course.stage over))
     ∙ so_far input course shelves packets output run rest

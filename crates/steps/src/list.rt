@@ -7,7 +7,7 @@ ghost use Rattle.lines.specs.Kept.{line_most, NoFeed};
 ghost use Rattle.steps.specs.Session.{opened};
 ghost use Rattle.steps.specs.Memory.{session_in, slots_most, Bounded};
 ghost use Rattle.steps.specs.Printed.{bad_first, walked_from, walked, printed};
-ghost use Rattle.steps.specs.Course.{text_of, line_in, for_course, still, number_most, is_done, is_over, Ready, WalkingAs, EndedAs, KeptMore, CourseKept, LineTaken, PieceTaken, Finished};
+ghost use Rattle.steps.specs.Course.{text_of, line_in, for_course, still, number_most, is_done, is_over, number_in, Ready, FreshAt, KeptMore, CourseKept, LineTaken, PieceTaken, Finished};
 
 use super::memory::Memory;
 use super::walk::{UNKNOWN, Walk};
@@ -26,21 +26,19 @@ pub struct Line {
     pub length: usize,
 }
 
-// Before line one, after it, and after a bad one.
+// Before line one, after it, and after a bad one. After it there is a session, whose next step has this number.
 #[derive(Clone, Copy)]
 pub enum Stage {
     First,
-    Walking,
+    Walking(u64, Walk),
     Ended,
 }
 
-// How far a list has come. The number is that of the next step.
+// How far a list has come. `Ready` stands in `requires`, since the theorem `WholeInput` speaks of any course.
 #[derive(Clone, Copy)]
 pub struct Course {
     pub stage: Stage,
-    pub number: u64,
     pub line: Line,
-    pub walk: Walk,
 }
 
 // How far the list has come after a line, and what is printed for the line: a number and a report, or nothing.
@@ -103,12 +101,11 @@ fn put_line(out: &mut [u8], at: usize, line: Option<(u64, Report)>) -> usize
 }
 
 // A bad first line ends the list.
-fn refuse_list(walk: Walk) -> Answered
-    requires { Bounded walk }
+fn refuse_list() -> Answered
     ensures { (number : ℕ) (shelves packets : List ℕ) → LineTaken number (λ lines. bad_first) result shelves packets }
 {
     Answered {
-        course: Course::ended(walk),
+        course: Course::fresh(Stage::Ended),
         line: Some((0, UNKNOWN)),
     }
 }
@@ -121,23 +118,22 @@ fn begin(n: u32, slots: u32, memory: &mut Memory) -> Answered
 {
     let walk = Walk::open(n as u8, slots as usize, memory);
     Answered {
-        course: Course::walking(1, walk),
+        course: Course::fresh(Stage::Walking(1, walk)),
         line: None,
     }
 }
 
 // Line one.
-fn take_opening(walk: Walk, line: &[u8], memory: &mut Memory) -> Answered
-    requires { Bounded walk }
+fn take_opening(line: &[u8], memory: &mut Memory) -> Answered
     ensures { (number : ℕ) → LineTaken number (walked_from (read_opening line.now)) result memory.new.shelves memory.new.packets }
 {
     let Some(Opening { n, slots }) = read_opening(line) else {
-        return refuse_list(walk);
+        return refuse_list();
     };
     if (1 <= n) & (n <= 16) & (slots <= 8) {
         return begin(n, slots, memory);
     }
-    refuse_list(walk)
+    refuse_list()
 }
 
 // A line after the first.
@@ -149,47 +145,29 @@ fn take_step(walk: Walk, number: u64, line: &[u8], memory: &mut Memory) -> Answe
     let walked = walk.step(read_step(line), memory);
     let next = number + 1;
     Answered {
-        course: Course::walking(next, walked.walk),
+        course: Course::fresh(Stage::Walking(next, walked.walk)),
         line: Some((number, walked.report)),
     }
 }
 
 impl Course {
+    // Between two lines.
+    fn fresh(stage: Stage) -> Course
+        ensures { FreshAt stage result }
+    {
+        Course {
+            stage,
+            line: Line::new(),
+        }
+    }
+
     // A list of which nothing has come.
     pub fn start() -> Course
         ensures ready { Ready result }
-        ensures number { result.number ≡ 0 }
+        ensures number { number_in result ≡ 0 }
         ensures prints { (shelves packets text : List ℕ) → still result shelves packets text ≡ printed text }
     {
-        Course {
-            stage: Stage::First,
-            number: 0,
-            line: Line::new(),
-            walk: Walk::new(),
-        }
-    }
-
-    // Between two lines, the next of which has this number.
-    fn walking(number: u64, walk: Walk) -> Course
-        ensures { WalkingAs number walk result }
-    {
-        Course {
-            stage: Stage::Walking,
-            number,
-            line: Line::new(),
-            walk,
-        }
-    }
-
-    fn ended(walk: Walk) -> Course
-        ensures { EndedAs walk result }
-    {
-        Course {
-            stage: Stage::Ended,
-            number: 0,
-            line: Line::new(),
-            walk,
-        }
+        Course::fresh(Stage::First)
     }
 
     // The line with more text, which has no line feed.
@@ -207,17 +185,16 @@ impl Course {
     // The line that was kept is whole.
     fn take_line(self, memory: &mut Memory) -> Answered
         requires ready { Ready self }
-        requires number { self.number < number_most }
-        ensures { LineTaken self.number (λ lines. for_course self memory.old.shelves memory.old.packets (line_in self.line ∷ lines)) result memory.new.shelves memory.new.packets }
+        requires number { number_in self < number_most }
+        ensures { LineTaken (number_in self) (λ lines. for_course self memory.old.shelves memory.old.packets (line_in self.line ∷ lines)) result memory.new.shelves memory.new.packets }
     {
-        let walk = self.walk;
         let bytes = self.line.bytes;
         let line = &bytes[..self.line.length];
         match self.stage {
-            Stage::First => take_opening(walk, line, memory),
-            Stage::Walking => take_step(walk, self.number, line, memory),
+            Stage::First => take_opening(line, memory),
+            Stage::Walking(number, walk) => take_step(walk, number, line, memory),
             Stage::Ended => Answered {
-                course: Course::ended(walk),
+                course: Course::fresh(Stage::Ended),
                 line: None,
             },
         }
@@ -227,7 +204,7 @@ impl Course {
     // piece can fail.
     pub fn take_piece(self, text: &[u8], memory: &mut Memory, out: &mut [u8]) -> Taken
         requires ready { Ready self }
-        requires number { self.number + length text.now ≤ number_most }
+        requires number { number_in self + length text.now ≤ number_most }
         requires room { answer_most * length text.now ≤ length out.old }
         ensures { PieceTaken self text.now memory.old.shelves memory.old.packets result memory.new.shelves memory.new.packets out.new }
     {
@@ -249,7 +226,7 @@ impl Course {
     // The input has ended: text after the last line feed is a line too.
     pub fn finish(self, memory: &mut Memory, out: &mut [u8]) -> usize
         requires ready { Ready self }
-        requires number { self.number < number_most }
+        requires number { number_in self < number_most }
         requires room { answer_most ≤ length out.old }
         ensures { Finished self memory.old.shelves memory.old.packets result out.new }
     {
@@ -266,7 +243,7 @@ impl Course {
     {
         match self.stage {
             Stage::First => false,
-            Stage::Walking | Stage::Ended => self.line.length == 0,
+            Stage::Walking(_, _) | Stage::Ended => self.line.length == 0,
         }
     }
 

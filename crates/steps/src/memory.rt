@@ -1,5 +1,6 @@
 // The bytes of a session: its shelves and its packets, each in pieces of one size.
-ghost use Rattle.std.specs.Prelude.{◌≡◌, ◌+◌, ◌*◌, ◌^◌, ◌<◌};
+ghost use Rattle.std.specs.Prelude.{◌≡◌, ◌+◌, ◌*◌, ◌^◌, ◌<◌, length};
+ghost use Rattle.steps.specs.Memory.{shelves_size, packets_size};
 
 use std::ops::Range;
 
@@ -18,7 +19,10 @@ pub struct Memory {
 }
 
 impl Memory {
-    pub fn new() -> Memory {
+    pub fn new() -> Memory
+        ensures shelves { length result.shelves ≡ shelves_size }
+        ensures packets { length result.packets ≡ packets_size }
+    {
         Memory {
             shelves: [0; SHELVES_SIZE],
             packets: [0; PACKETS_SIZE],

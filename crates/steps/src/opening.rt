@@ -37,21 +37,6 @@ fn open_all(n: u8, slots: usize, memory: &mut Memory) -> [Seat; 16]
 }
 
 impl Walk {
-    // A walk of no seats, before line one.
-    pub fn new() -> Walk
-        ensures bounded { Bounded result }
-        ensures nothing_sent { result.sends ≡ 0 }
-    {
-        Walk {
-            n: 0,
-            slots: 0,
-            sends: 0,
-            letters: 0,
-            seats: [NO_SEAT; 16],
-            edits: [NO_EDIT; 256],
-        }
-    }
-
     // The session of n seats, each with a shelf of so many slots. The caller has found both to be in range.
     pub fn open(n: u8, slots: usize, memory: &mut Memory) -> Walk
         requires seats { n ≤ 16 }
@@ -62,8 +47,10 @@ impl Walk {
         Walk {
             n,
             slots,
+            sends: 0,
+            letters: 0,
             seats: open_all(n, slots, memory),
-            ..Walk::new()
+            edits: [NO_EDIT; 256],
         }
     }
 }

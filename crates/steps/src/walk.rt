@@ -4,7 +4,7 @@ ghost use Rattle.std.specs.Prelude.{◌≡◌, ◌+◌, ◌*◌, ◌≤◌, ◌<
 ghost use Rattle.std.specs.List.{position};
 ghost use Rattle.answers.specs.Answers.{bare};
 ghost use Rattle.steps.specs.Session.{send_told, arrive_told, release_told, wish_of, step_told};
-ghost use Rattle.steps.specs.Memory.{shelf_size, session_in, Bounded, Walks, index_in, with_seat, with_edit, walked_to, SentEmpty};
+ghost use Rattle.steps.specs.Memory.{shelf_size, session_in, Bounded, Walks, index_in, with_edit, walked_to, SentEmpty};
 
 use super::memory::{Memory, piece_at};
 use answers::{Answer, Edit, EditNo, Report, SeatNo};
@@ -20,7 +20,7 @@ const PACKET_MOST: usize = 67;
 // The send lines that are taken.
 const SENDS_MOST: usize = 256;
 
-// The edit of a report that names none.
+// The edit of a report that names none, as a constant, which fills an array too.
 pub const NO_EDIT: Edit = Edit {
     sender: SeatNo(0),
     number: EditNo(0),
@@ -34,7 +34,8 @@ pub const UNKNOWN: Report = Report {
 };
 
 // A session of n seats, each with a shelf of so many slots. Seat k's state stands at index k - 1, and its shelf at that
-// place of the shelves. Packet i was the i-th that was sent, and carries the edit at i.
+// place of the shelves. Packet i was the i-th that was sent, and carries the edit at i; the kit's ArrayVec is not Copy.
+// Its bounds stand in `requires`: specs/Memory builds walks as records, and a ghost field would stand in each.
 #[derive(Clone, Copy)]
 pub struct Walk {
     pub n: u8,
@@ -59,7 +60,7 @@ fn send_empty(seat: Seat, wish: Wish, out: &mut [u8]) -> Stepped
     seat.send(wish, b"", out)
 }
 
-// A missing letter means usual.
+// A missing letter means usual. Both types are other crates', so this is no From.
 fn wish_of(letter: Option<Letter>) -> Wish
     ensures { result ≡ wish_of letter }
 {
@@ -78,14 +79,6 @@ fn carries(edit: Edit, sender: u32, number: u32) -> bool
 }
 
 impl Walk {
-    fn with_seat(mut self, at: usize, seat: Seat) -> Walk
-        requires { at < 16 }
-        ensures { result ≡ with_seat self at seat }
-    {
-        self.seats[at] = seat;
-        self
-    }
-
     // The packet that was sent last is noted.
     fn with_edit(mut self, answer: Answer) -> Walk
         requires { self.letters < 256 }
@@ -98,16 +91,15 @@ impl Walk {
         self
     }
 
-    // The answer of a step at the seat at an index, and its next state.
-    fn moved_on(self, at: usize, stepped: Stepped) -> Walked
+    // The answer of a step at the seat at an index, whose next state is kept.
+    fn moved_on(mut self, at: usize, stepped: Stepped) -> Walked
         requires { at < 16 }
         ensures { result ≡ walked_to self at stepped.seat stepped.answer }
     {
-        let seat = stepped.seat;
-        let answer = stepped.answer;
+        self.seats[at] = stepped.seat;
         Walked {
-            walk: self.with_seat(at, seat),
-            report: answer.report(),
+            walk: self,
+            report: stepped.answer.report(),
         }
     }
 

@@ -1,7 +1,8 @@
 -- The ways out of the call of an arrival: a refusal that changes nothing, and the library's step.
-use Prim.Native.Nat.{ℕ, ◌<◌}
+use Prim.Native.Nat.{ℕ}
 use mathlib.Core.Path.{◌≡◌, sym, ◌∙◌}
 use mathlib.Core.List.{List}
+use native.Mathlib.Omega.{arith}
 use lib.ListN.{length}
 use Rattle.answers.specs.Answers.{bare, report}
 use Rattle.packet.specs.Packet.{past_of, barrier_of}
@@ -19,27 +20,23 @@ stepped_arrive_is_numbered shelf packet seat stepped after numbered arrived =
     (seat_after_is_numbered (arrive_answer seat shelf packet) _ seat (handed_is_numbered seat (heading_of packet) (past_of packet) (barrier_of packet) numbered) numbered)
 
 module _ (image shelf packet : List ℕ) where
-  pub arrive_wrong_length_is_10 : (length image ≡ image_size → ⊥) → arrive_report image shelf packet ≡ bare 10
+  pub arrive_wrong_length_is_10 : (length image ≡ image_size → ⊥) → ArriveCalled image shelf packet 10 image shelf
   unfolding arrive_report
-  arrive_wrong_length_is_10 wrong = refuses 10 _ _ _ (wrong_length_lem image wrong)
-
-  pub arrive_steps : length image ≡ image_size → arrive_report image shelf packet ≡ report (arrive_answer (decoded image) shelf packet)
-  unfolding arrive_report
-  arrive_steps right = goes_on 10 _ _ _ (right_length image right) ∙ none_left _
-
-  pub refused_arrive_call : (number : ℕ) → 1 < number → arrive_report image shelf packet ≡ bare number → ArriveCalled image shelf packet number image shelf
-  refused_arrive_call number large told =
+  arrive_wrong_length_is_10 wrong =
+      let told : arrive_report image shelf packet ≡ bare 10 = refuses 10 _ _ _ (wrong_length_lem image wrong) in
       record {
-        answered = sym (packed_bare number) ∙ rw told;
-        image_after = rw told (sym (left_alone (bare number) _ image large));
-        shelf_after_is = rw told (sym (left_alone (bare number) _ shelf large));
+        answered = sym (packed_bare 10) ∙ rw told;
+        image_after = rw told (sym (left_alone (bare 10) _ image (omega arith)));
+        shelf_after_is = rw told (sym (left_alone (bare 10) _ shelf (omega arith)));
       }
 
-  pub stepped_arrive_call : (seat : Seat) (stepped : Stepped) (answer : ℕ) (image-left shelf-left : List ℕ) → seat ≡ decoded image
-      → arrive_report image shelf packet ≡ report (arrive_answer (decoded image) shelf packet) → Arrived seat packet shelf stepped shelf-left
+  pub stepped_arrive_call : (seat : Seat) (stepped : Stepped) (answer : ℕ) (image-left shelf-left : List ℕ) → length image ≡ image_size
+      → seat ≡ decoded image → Arrived seat packet shelf stepped shelf-left
       → Kept stepped image answer image-left → ArriveCalled image shelf packet answer image-left shelf-left
-  stepped_arrive_call seat stepped answer image-left shelf-left is-seat told arrived kept =
+  unfolding arrive_report
+  stepped_arrive_call seat stepped answer image-left shelf-left right is-seat arrived kept =
       let of = arrive_answer (decoded image) shelf packet in
+      let told : arrive_report image shelf packet ≡ report of = goes_on 10 _ _ _ (right_length image right) ∙ none_left _ in
       let answered : stepped.answer ≡ of = arrived.answered ∙ rw is-seat in
       record {
         answered = kept_answer image stepped answer image-left of _ answered told kept;

@@ -1,19 +1,16 @@
 -- The image part by part: the state that is built of the fields read, and the bytes that stand after the parts were put
 -- down one after another.
-use Prim.Native.Nat.{ℕ, ◌+◌, ◌*◌, ◌/◌, ◌%◌, ◌<◌, ◌^◌}
+use Prim.Native.Nat.{ℕ, ◌+◌, ◌*◌, ◌/◌, ◌%◌}
 use mathlib.Core.Path.{◌≡◌, refl, ap, ◌∙◌}
 use mathlib.Core.List.{List, [], ◌∷◌, ◌++◌, append-nil}
 use native.Mathlib.Nat.{zero-add}
-use native.Mathlib.Decide.{dec_lt}
 use native.Mathlib.Omega.{arith}
-use lib.ListN.{length, get_or, set, drop, length-append, get_or-eq_default}
+use lib.ListN.{length, get_or, set, drop, length-append}
 use lib.Seq.{sets, sets-eq, drop-length}
 use Rattle.answers.specs.Answers.{seat_no}
-use Rattle.vectors.specs.Bytes.{number_at, fields_of, Bytes}
-use Rattle.vectors.proofs.Vector.{length_vector, vector_below}
-use Rattle.vectors.proofs.Numbers.{length_fields_of, number_fits, sets_then}
-use Rattle.tautrobin.specs.Image.{image_size, past_at, barrier_at, run_at, ahead_at, fields_at, decoded, numbers_byte, encoded, Numbered}
-use Rattle.seat.specs.State.{Held}
+use Rattle.vectors.specs.Bytes.{fields_of}
+use Rattle.vectors.proofs.Numbers.{length_fields_of, sets_then}
+use Rattle.tautrobin.specs.Image.{image_size, past_at, barrier_at, run_at, ahead_at, fields_at, decoded, numbers_byte, encoded}
 use Rattle.seat.specs.declared.Seat.{Seat}
 
 -- ---- a state that was read
@@ -25,35 +22,6 @@ pub decoded_is : (image past barrier run ahead : List ℕ) → past ≡ fields_a
     (decoded image)
 unfolding decoded
 decoded_is image past barrier run ahead is-past is-barrier is-run is-ahead = rw (is-past, is-barrier, is-run, is-ahead)
-
-module _ (image : List ℕ) (bytes : Bytes image) where
-  field_fits : (w at k : ℕ) → get_or (fields_at w image at) k 0 < 256 ^ w
-  field_fits w at k =
-      let long = length_vector 16 (λ j. number_at w image (at + w * j)) in
-      elim (dec_lt k 16) [
-        | yes inside ↦ rw (vector_below 16 (λ j. number_at w image (at + w * j)) k inside inside) (number_fits w image (at + w * k) bytes)
-        | no above ↦ rw (get_or-eq_default (fields_at w image at) 0 {n = k} (omega arith)) (omega (arith, number_fits w image at bytes))
-      ]
-
-  pub decoded_is_held : Held (decoded image)
-  unfolding decoded
-  decoded_is_held =
-      record {
-        past_long = length_vector 16 _;
-        barrier_long = length_vector 16 _;
-        run_long = length_vector 16 _;
-        ahead_long = length_vector 16 _;
-        past_fits = field_fits 2 past_at;
-        barrier_fits = field_fits 2 barrier_at;
-        run_fits = field_fits 2 run_at;
-        ahead_fits = field_fits 8 ahead_at;
-      }
-
-  pub decoded_is_numbered : Numbered (decoded image)
-  unfolding decoded Bytes
-  decoded_is_numbered =
-      let first = bytes 0 in
-      record { seats_low = omega arith; seats_high = omega arith; own_low = omega arith; own_high = omega arith }
 
 -- ---- a state that is written
 
@@ -80,17 +48,6 @@ module _ (seat : Seat) (long : Long seat) where
         run = length_fields_of 2 seat.run ∙ ap (λ (k : ℕ). 2 * k) long.run;
         ahead = length_fields_of 8 seat.ahead ∙ ap (λ (k : ℕ). 8 * k) long.ahead;
       }
-
-  pub length_encoded : length (encoded seat) ≡ image_size
-  unfolding encoded
-  length_encoded =
-      let part = parts in
-      let H = numbers_byte seat ∷ [] in
-      let P = fields_of 2 seat.past in
-      let B = fields_of 2 seat.barrier in
-      let R = fields_of 2 seat.run in
-      let A = fields_of 8 seat.ahead in
-      omega (arith, length-append H P, length-append (H ++ P) B, length-append (H ++ P ++ B) R, length-append (H ++ P ++ B ++ R) A)
 
   -- what stands after the five parts were put down
   pub five_parts : (image a₁ a₂ a₃ a₄ a₅ : List ℕ) → length image ≡ image_size → a₁ ≡ set image 0 (numbers_byte seat)

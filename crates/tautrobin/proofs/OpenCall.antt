@@ -55,9 +55,17 @@ module _ (n own : ℕ) (image shelf : List ℕ) where
     unfolding open_report
     open_wrong_length_is_10 wrong = goes_on 20 _ _ _ (rw range) ∙ refuses 10 _ _ _ (wrong_length_lem image wrong)
 
-    pub open_steps : length image ≡ image_size → open_report n own image shelf ≡ report (open_answer n (seat_no own) shelf)
+    pub stepped_open_call : (stepped : Stepped) (answer : ℕ) (image-left shelf-left : List ℕ) → length image ≡ image_size
+        → OpenedAs n (seat_no own) shelf stepped shelf-left → Kept stepped image answer image-left → OpenCalled n own image shelf answer image-left shelf-left
     unfolding open_report
-    open_steps right = goes_on 20 _ _ _ (rw range) ∙ goes_on 10 _ _ _ (right_length image right) ∙ none_left _
+    stepped_open_call stepped answer image-left shelf-left right opened kept =
+        let of = open_answer n (seat_no own) shelf in
+        let told : open_report n own image shelf ≡ report of = goes_on 20 _ _ _ (rw range) ∙ goes_on 10 _ _ _ (right_length image right) ∙ none_left _ in
+        record {
+          answered = kept_answer image stepped answer image-left of _ opened.answered told kept;
+          image_after = kept_image image stepped answer image-left of _ _ opened.answered told opened.next kept;
+          shelf_after_is = opened.shelf_after_is ∙ rw told (stands of _ shelf (opened_shelf_left_alone of shelf));
+        }
 
   pub refused_open_call : (number : ℕ) → 1 < number → open_report n own image shelf ≡ bare number → OpenCalled n own image shelf number image shelf
   refused_open_call number large told =
@@ -65,13 +73,4 @@ module _ (n own : ℕ) (image shelf : List ℕ) where
         answered = sym (packed_bare number) ∙ rw told;
         image_after = rw told (sym (left_alone (bare number) _ image large));
         shelf_after_is = rw told (sym (left_alone (bare number) _ shelf large));
-      }
-
-  pub stepped_open_call : (stepped : Stepped) (answer : ℕ) (image-left shelf-left : List ℕ) → open_report n own image shelf ≡ report (open_answer n (seat_no own) shelf)
-      → OpenedAs n (seat_no own) shelf stepped shelf-left → Kept stepped image answer image-left → OpenCalled n own image shelf answer image-left shelf-left
-  stepped_open_call stepped answer image-left shelf-left told opened kept =
-      record {
-        answered = kept_answer image stepped answer image-left _ _ opened.answered told kept;
-        image_after = kept_image image stepped answer image-left _ _ _ opened.answered told opened.next kept;
-        shelf_after_is = opened.shelf_after_is ∙ rw told (stands (open_answer n (seat_no own) shelf) _ shelf (opened_shelf_left_alone (open_answer n (seat_no own) shelf) shelf));
       }

@@ -1,7 +1,8 @@
 -- The ways out of the call that releases: a refusal that changes nothing, and the library's step.
-use Prim.Native.Nat.{ℕ, ◌<◌}
+use Prim.Native.Nat.{ℕ}
 use mathlib.Core.Path.{◌≡◌, sym, ◌∙◌}
 use mathlib.Core.List.{List}
+use native.Mathlib.Omega.{arith}
 use lib.ListN.{length}
 use Rattle.answers.specs.Answers.{bare, report}
 use Rattle.packet.specs.Packet.{past_of, barrier_of}
@@ -22,28 +23,24 @@ stepped_release_is_numbered shelf out seat stepped shelf-left output-left number
     (seat_after_is_numbered (release_answer seat shelf out) _ seat (handed_is_numbered seat (heading_of packet) (past_of packet) (barrier_of packet) numbered) numbered)
 
 module _ (image shelf out : List ℕ) where
-  pub release_wrong_length_is_10 : (length image ≡ image_size → ⊥) → release_report image shelf out ≡ bare 10
+  pub release_wrong_length_is_10 : (length image ≡ image_size → ⊥) → ReleaseCalled image shelf out 10 image shelf out
   unfolding release_report
-  release_wrong_length_is_10 wrong = refuses 10 _ _ _ (wrong_length_lem image wrong)
-
-  pub release_steps : length image ≡ image_size → release_report image shelf out ≡ report (release_answer (decoded image) shelf out)
-  unfolding release_report
-  release_steps right = goes_on 10 _ _ _ (right_length image right) ∙ none_left _
-
-  pub refused_release_call : (number : ℕ) → 1 < number → release_report image shelf out ≡ bare number → ReleaseCalled image shelf out number image shelf out
-  refused_release_call number large told =
+  release_wrong_length_is_10 wrong =
+      let told : release_report image shelf out ≡ bare 10 = refuses 10 _ _ _ (wrong_length_lem image wrong) in
       record {
-        answered = sym (packed_bare number) ∙ rw told;
-        image_after = rw told (sym (left_alone (bare number) _ image large));
-        shelf_after_is = rw told (sym (left_alone (bare number) _ shelf large));
-        output = rw told (sym (left_alone (bare number) _ out large));
+        answered = sym (packed_bare 10) ∙ rw told;
+        image_after = rw told (sym (left_alone (bare 10) _ image (omega arith)));
+        shelf_after_is = rw told (sym (left_alone (bare 10) _ shelf (omega arith)));
+        output = rw told (sym (left_alone (bare 10) _ out (omega arith)));
       }
 
-  pub stepped_release_call : (seat : Seat) (stepped : Stepped) (answer : ℕ) (image-left shelf-left output-left : List ℕ) → seat ≡ decoded image
-      → release_report image shelf out ≡ report (release_answer (decoded image) shelf out) → Released seat shelf out stepped shelf-left output-left
+  pub stepped_release_call : (seat : Seat) (stepped : Stepped) (answer : ℕ) (image-left shelf-left output-left : List ℕ) → length image ≡ image_size
+      → seat ≡ decoded image → Released seat shelf out stepped shelf-left output-left
       → Kept stepped image answer image-left → ReleaseCalled image shelf out answer image-left shelf-left output-left
-  stepped_release_call seat stepped answer image-left shelf-left output-left is-seat told released kept =
+  unfolding release_report
+  stepped_release_call seat stepped answer image-left shelf-left output-left right is-seat released kept =
       let of = release_answer (decoded image) shelf out in
+      let told : release_report image shelf out ≡ report of = goes_on 10 _ _ _ (right_length image right) ∙ none_left _ in
       let answered : stepped.answer ≡ of = released.answered ∙ rw is-seat in
       record {
         answered = kept_answer image stepped answer image-left of _ answered told kept;

@@ -6,11 +6,10 @@ use mathlib.Core.List.{List, [], ◌∷◌}
 use native.Mathlib.Omega.{arith}
 use borrow.Author.Tests.{le-leb, lt-leb}
 use Rattle.answers.specs.Answers.{bare, report, refusal_number}
-use Rattle.answers.specs.declared.Refusal.{Refusal}
-use Rattle.answers.specs.declared.Refusal.TheVariants.{NotSound, BodyTooLong, CountFull, OutputTooShort, NotWellFormed, OtherSession, AboveOwnCount, Repeated, TooFarAhead, ShelfFull, NoSuchSeat, BarrierAbovePast}
 use Rattle.answers.specs.declared.Answer.{Answer}
 use Rattle.answers.specs.declared.Answer.TheVariants.{Opened, Done, Shelved, NothingReady, Refused}
 use Rattle.answers.specs.declared.Report.{Report}
+use Rattle.answers.proofs.InOrder.{refusals_between}
 use Rattle.tautrobin.specs.Calls.{packed, answer_number, sender_number, sequence_number, reported_length, first_report, rewritten}
 
 -- ---- a report as one number
@@ -28,20 +27,6 @@ pub packed_edit : (told : Report) → told.answer < 256 → told.edit.sender.0 <
     → (sender_number (packed told) ≡ told.edit.sender.0) × (sequence_number (packed told) ≡ told.edit.number.0) × (reported_length (packed told) ≡ told.edit.length)
 unfolding packed
 packed_edit told small sender number length = (omega arith, omega arith, omega arith)
-
-refusals_between : (refusal : Refusal) → (1 < refusal_number refusal) × (refusal_number refusal < 256)
-refusals_between NotSound = (omega arith, omega arith)
-refusals_between BodyTooLong = (omega arith, omega arith)
-refusals_between CountFull = (omega arith, omega arith)
-refusals_between OutputTooShort = (omega arith, omega arith)
-refusals_between NotWellFormed = (omega arith, omega arith)
-refusals_between OtherSession = (omega arith, omega arith)
-refusals_between AboveOwnCount = (omega arith, omega arith)
-refusals_between Repeated = (omega arith, omega arith)
-refusals_between TooFarAhead = (omega arith, omega arith)
-refusals_between ShelfFull = (omega arith, omega arith)
-refusals_between NoSuchSeat = (omega arith, omega arith)
-refusals_between BarrierAbovePast = (omega arith, omega arith)
 
 report_is_small : (answer : Answer) → (report answer).answer < 256
 report_is_small Opened = omega arith
@@ -95,4 +80,4 @@ stands Opened next before same = refl
 stands (Done edit) next before same = refl
 stands Shelved next before same = refl
 stands NothingReady next before same = same (omega arith)
-stands (Refused refusal) next before same = let large = (refusals_between refusal).0 in rw (lt-leb (refusal_number refusal) 1 large) (same large)
+stands (Refused refusal) next before same = let large = (refusals_between refusal).0 in rw (lt-leb (refusal_number refusal) 1 (omega arith)) (same (omega arith))

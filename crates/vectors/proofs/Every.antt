@@ -1,21 +1,16 @@
--- Laws of `all`: what it says of each index, and the loop that gathers a test over every index.
-use Prim.Native.Nat.{ℕ, zero, suc, ◌+◌, ◌*◌, ◌≤◌, ◌<◌}
+-- Laws of `all`: what it says of each index, and the fold that gathers a test over the entries of a list.
+use Prim.Native.Nat.{ℕ, zero, suc, ◌+◌, ◌*◌, ◌<◌}
 use mathlib.Core.Path.{◌≡◌, refl, sym, ap, ap₂, ◌∙◌}
 use mathlib.Core.Bool.{Bool, true, false, ◌&&◌, and-false, and-true, and_assoc}
 use mathlib.Core.Logic.{⊎_elim}
 use mathlib.Core.List.{List, [], ◌∷◌}
-use native.Mathlib.Nat.{add_comm, add-zero, add-suc, mul-zero, mul-suc, not-suc-le-zero, le_of_suc-le-suc, eq-or-lt_of_le, le_antisymm}
-use native.Mathlib.Numerals.{add-one}
+use native.Mathlib.Nat.{add-zero, add-suc, mul-zero, mul-suc, not-suc-le-zero, le_of_suc-le-suc, eq-or-lt_of_le}
+use native.Mathlib.Numerals.{one-add}
 use native.Mathlib.Omega.{arith}
 use lib.ListN.{length, get_or}
+use Rattle.std.proofs.lemmas.Bool.{and_parts}
 use Rattle.std.specs.List.{fold}
 use Rattle.vectors.specs.Vectors.{all}
-
-pub and_both : (a b : Bool) → (a && b) ≡ true → (a ≡ true) × (b ≡ true)
-and_both true true e = (refl, refl)
-and_both true false e = (refl, e)
-and_both false true e = (e, refl)
-and_both false false e = (e, e)
 
 module _ (test : ℕ → Bool) where
   -- what holds of all holds of each, and the other way round
@@ -23,7 +18,7 @@ module _ (test : ℕ → Bool) where
   unfolding all
   all_at zero k e h = absurd (not-suc-le-zero h)
   all_at (suc n) k e h =
-      let both = and_both (all n test) (test n) e in
+      let both = and_parts (all n test) (test n) e in
       ⊎_elim (λ same. rw same both.1) (λ less. all_at n k both.0 less) (eq-or-lt_of_le (le_of_suc-le-suc h))
 
   pub all_of : (n : ℕ) → ((k : ℕ) → k < n → test k ≡ true) → all n test ≡ true
@@ -56,9 +51,6 @@ all_parts w zero test = rw mul-zero
 all_parts w (suc n) test =
     rw mul-suc (ap (λ (t : Bool). t && all w (λ j. test (w * n + j))) (all_parts w n test) ∙ sym (all_split (w * n) w test))
 
-one_more : (k : ℕ) → 1 + k ≡ suc k
-one_more k = add_comm 1 k ∙ add-one k
-
 -- a fold over the entries of a list, without an early exit
 pub fold_is_all : {X : Type 0} (test : X → Bool) (d : X) (ok : Bool) (xs : List X)
     → fold (λ (so_far : Bool) (x : X). so_far && test x) ok xs ≡ (ok && all (length xs) (λ k. test (get_or xs k d)))
@@ -67,24 +59,7 @@ fold_is_all test d ok [] = sym (and-true ok)
 fold_is_all test d ok (x ∷ xs) =
     let entry : ℕ → Bool = λ k. test (get_or (x ∷ xs) k d) in
     let rest : all (length xs) (λ k. entry (1 + k)) ≡ all (length xs) (λ k. test (get_or xs k d))
-    = all_same (length xs) (λ k. entry (1 + k)) (λ k. test (get_or xs k d)) (λ k h. ap entry (one_more k)) in
+    = all_same (length xs) (λ k. entry (1 + k)) (λ k. test (get_or xs k d)) (λ k h. ap entry (one-add k)) in
     fold_is_all test d (ok && test x) xs
     ∙ and_assoc ok (test x) (all (length xs) (λ k. test (get_or xs k d)))
-    ∙ ap (λ (b : Bool). ok && b) (ap (λ (b : Bool). test x && b) (sym rest) ∙ sym (all_split 1 (length xs) entry) ∙ ap (λ (n : ℕ). all n entry) (one_more (length xs)))
-
--- the loop: after k turns the test is gathered over the first k indices
-pub record Gathered (n : ℕ) (test : ℕ → Bool) (k : ℕ) (ok : Bool) : Type 0 where
-  pub low : k ≤ n
-  pub is : ok ≡ all k test
-
-module _ (n : ℕ) (test : ℕ → Bool) where
-  pub gathered_none : Gathered n test 0 true
-  unfolding all
-  gathered_none = record { low = omega arith; is = refl }
-
-  pub gathered_more : (k : ℕ) (ok next : Bool) → Gathered n test k ok → k < n → next ≡ (ok && test k) → Gathered n test (k + 1) next
-  unfolding all
-  gathered_more k ok next so h e = record { low = omega arith; is = rw add-one (e ∙ ap (λ (b : Bool). b && test k) so.is) }
-
-  pub gathered_all : (k : ℕ) (ok : Bool) → Gathered n test k ok → n ≤ k → ok ≡ all n test
-  gathered_all k ok so h = so.is ∙ rw (le_antisymm so.low h)
+    ∙ ap (λ (b : Bool). ok && b) (ap (λ (b : Bool). test x && b) (sym rest) ∙ sym (all_split 1 (length xs) entry) ∙ ap (λ (n : ℕ). all n entry) (one-add (length xs)))

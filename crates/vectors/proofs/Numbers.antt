@@ -4,7 +4,7 @@ use Prim.Native.Nat.{ℕ, zero, suc, ◌+◌, ◌-◌, ◌*◌, ◌/◌, ◌%◌
 use mathlib.Core.Path.{◌≡◌, refl, sym, ap, ap₂, ◌∙◌}
 use mathlib.Core.Bool.{Bool, ◌&&◌}
 use mathlib.Core.List.{List, [], ◌∷◌, ◌++◌, append_assoc, append-nil}
-use native.Mathlib.Nat.{add-zero, add-suc, suc-add, zero-add, add_comm, mul-zero, mul-suc, mul-le-mul_left, pow-suc, pow-succ', div-div-eq-div-mul, mod-one, mod-eq_of_lt, le_antisymm, le_of_suc-le-suc, not-suc-le-zero}
+use native.Mathlib.Nat.{add-zero, add-suc, suc-add, zero-add, add_comm, mul-zero, mul-suc, mul-le-mul_left, pow-suc, pow-succ', div-div-eq-div-mul, mod-one, mod-eq_of_lt, le_of_suc-le-suc, not-suc-le-zero}
 use native.Mathlib.Numerals.{add-one}
 use native.Mathlib.Decide.{ℕ_discrete}
 use native.Mathlib.Omega.{arith}
@@ -12,8 +12,9 @@ use lib.Arith.{mod-mul, digits_div, digits_mod}
 use lib.Dec.{eqb}
 use lib.ListN.{length, get_or, set, take, drop, length-append, get_or-append}
 use lib.Seq.{sets, sets-eq, length-sets, length-take-le, take-suc, take-add, take_at, drop_at, drop-drop, get_or-take, get_or-drop, get_or_at, get_or-append-add}
-use borrow.Author.Tests.{eq-eqb, ne_eqb}
+use borrow.Author.Tests.{eq-eqb, ne_eqb, eqb-true}
 use borrow.Rule.Slice.PartMut.{put_mid, Post-is}
+use Rattle.std.specs.Cmp.Derive.{one_truth}
 use Rattle.std.specs.Int.{byte_at, bytes_high_first}
 use Rattle.vectors.specs.Vectors.{all, table}
 use Rattle.vectors.specs.Bytes.{number_at, bytes_of, fields_of, Bytes}
@@ -72,11 +73,7 @@ number_fits (suc w) s i small = omega (arith, pow-suc 256 w, number_fits w s i s
 
 -- two numbers that are 0 together
 pub zero_together : (x y : ℕ) → (x ≡ 0 → y ≡ 0) → (y ≡ 0 → x ≡ 0) → eqb x 0 ≡ eqb y 0
-zero_together x y there back =
-    elim (ℕ_discrete x 0) [
-      | yes none ↦ eq-eqb x 0 none ∙ sym (eq-eqb y 0 (there none))
-      | no some ↦ ne_eqb x 0 some ∙ sym (ne_eqb y 0 (λ e. some (back e)))
-    ]
+zero_together x y there back = one_truth _ _ (λ e. eq-eqb y 0 (there (eqb-true x 0 e))) (λ e. eq-eqb x 0 (back (eqb-true y 0 e)))
 
 -- a number is 0 where each of its bytes is
 digits_zero : (high low : ℕ) → eqb (high * 256 + low) 0 ≡ (eqb high 0 && eqb low 0)
@@ -116,18 +113,12 @@ pub record Put (l : List ℕ) (i n : ℕ) (so_far : ℕ → List ℕ) (k : ℕ) 
   pub is : now ≡ sets l i (so_far k)
 
 module _ (l : List ℕ) (i n : ℕ) (so_far : ℕ → List ℕ) where
-  pub put_none : so_far 0 ≡ [] → Put l i n so_far 0 l
-  put_none e = record { low = omega arith; long = refl; is = sym (ap (λ (x : List ℕ). sets l i x) e) }
-
   pub put_more : (k at : ℕ) (now next piece : List ℕ) → Put l i n so_far k now → k < n → so_far (k + 1) ≡ so_far k ++ piece → i + length (so_far k) ≡ at
       → next ≡ sets now at piece → Put l i n so_far (k + 1) next
   put_more k at now next piece so h more here e =
       let is : next ≡ sets l i (so_far (k + 1)) =
       e ∙ ap (λ (x : List ℕ). sets x at piece) so.is ∙ sets_then l i (so_far k) piece at here ∙ ap (λ (x : List ℕ). sets l i x) (sym more) in
       record { low = omega arith; long = ap length is ∙ length-sets l i (so_far (k + 1)); is = is }
-
-  pub put_all : (k : ℕ) (now : List ℕ) → Put l i n so_far k now → n ≤ k → now ≡ sets l i (so_far n)
-  put_all k now so h = so.is ∙ rw (le_antisymm so.low h)
 
 -- ---- fields, one after another
 

@@ -1,7 +1,7 @@
 -- Laws of a word's bits: of a word moved down, of an or, of a power of two, and of the ones below the first zero.
 use Prim.Native.Nat.{ℕ, zero, suc, ◌+◌, ◌-◌, ◌/◌, ◌%◌, ◌^◌, ◌≤◌, ◌<◌, max, zero-le}
 use mathlib.Core.Path.{◌≡◌, refl, sym, ap, ◌∙◌}
-use mathlib.Core.Bool.{Bool, true, false, cond, not, ◌||◌}
+use mathlib.Core.Bool.{true, false, cond, not, ◌||◌}
 use mathlib.Core.Logic.{◌⊎◌, inl, inr, ⊎_elim}
 use native.Mathlib.Nat.{not-suc-le-zero, pow-suc, div-one, zero-div, div-eq_of_lt, div-eq_of_lt-le, lt_of_lt_of_le}
 use native.Mathlib.Numerals.{one-add}
@@ -11,13 +11,8 @@ use lib.Bits.{bit_or, or_shr, or_step}
 use lib.Count.{count_trailing_zeros, under}
 use lib.Dec.{eqb, eqb-zero-suc, eqb-suc-zero, eqb-suc-suc}
 use lib.Pow.{pow_mono, shr-shr}
+use Rattle.std.proofs.lemmas.Bool.{cases_Bool}
 use Rattle.window.specs.Window.{bit, trailing_ones}
-
--- ---- truth values and digits
-
-pub true_or_false : (a : Bool) → (a ≡ true) ⊎ (a ≡ false)
-true_or_false true = inl refl
-true_or_false false = inr refl
 
 digit : (d : ℕ) → d < 2 → (d ≡ 0) ⊎ (d ≡ 1)
 digit zero h = inl refl
@@ -93,22 +88,22 @@ pub ones_at_most : (k word : ℕ) → trailing_ones k word ≤ k
 unfolding trailing_ones
 ones_at_most zero word = zero-le
 ones_at_most (suc k) word =
-    ⊎_elim (λ e. omega (arith, ones_more k word e, ones_at_most k (word / 2))) (λ e. omega (arith, ones_end k word e)) (true_or_false (bit word 0))
+    ⊎_elim (λ e. omega (arith, ones_more k word e, ones_at_most k (word / 2))) (λ e. omega (arith, ones_end k word e)) (cases_Bool (bit word 0))
 
 pub ones_are_set : (k word j : ℕ) → j < trailing_ones k word → bit word j ≡ true
 unfolding trailing_ones
 ones_are_set zero word j h = absurd (not-suc-le-zero h)
-ones_are_set (suc k) word zero h = ⊎_elim (λ e. e) (λ e. absurd (omega (arith, ones_end k word e))) (true_or_false (bit word 0))
+ones_are_set (suc k) word zero h = ⊎_elim (λ e. e) (λ e. absurd (omega (arith, ones_end k word e))) (cases_Bool (bit word 0))
 ones_are_set (suc k) word (suc j) h =
     ⊎_elim (λ e. bit_next word j ∙ ones_are_set k (word / 2) j (omega (arith, ones_more k word e))) (λ e. absurd (omega (arith, ones_end k word e)))
-    (true_or_false (bit word 0))
+    (cases_Bool (bit word 0))
 
 pub next_is_clear : (k word : ℕ) → word < 2 ^ k → bit word (trailing_ones k word) ≡ false
 unfolding trailing_ones
 next_is_clear zero word h = rw (lt-one h) (bit_none 0)
 next_is_clear (suc k) word h =
     ⊎_elim (λ e. rw (ones_more k word e) (bit_next word (trailing_ones k (word / 2)) ∙ next_is_clear k (word / 2) (omega (arith, pow-suc 2 k))))
-    (λ e. rw (ones_end k word e) e) (true_or_false (bit word 0))
+    (λ e. rw (ones_end k word e) e) (cases_Bool (bit word 0))
 
 -- they are the complement's zeros
 under_complement : (d t : ℕ) → d < 2 → under (1 - d) t ≡ cond (eqb d 1) (suc t) 0

@@ -1,7 +1,7 @@
 -- What the code computes of a window, by shifts and counts of zeros, is what the definitions say.
 use Prim.Native.Nat.{ℕ, suc, ◌+◌, ◌-◌, ◌*◌, ◌%◌, ◌^◌, ◌≤◌, ◌<◌}
-use mathlib.Core.Path.{◌≡◌, refl, sym, ap, ◌∙◌}
-use mathlib.Core.Bool.{Bool, true, false, ◌&&◌, true≢false}
+use mathlib.Core.Path.{◌≡◌, sym, ap, ◌∙◌}
+use mathlib.Core.Bool.{true, false, ◌&&◌, true≢false}
 use mathlib.Core.Logic.{⊎_elim}
 use native.Mathlib.Decide.{dec_lt}
 use native.Mathlib.Nat.{div-eq_of_lt, eq-zero-or-pos, lt_of_lt_of_le, one-mul}
@@ -11,17 +11,13 @@ use lib.Bits.{bit_or}
 use lib.Count.{count_trailing_zeros, count_leading_zeros, leading_of_zero, leading_top}
 use lib.Dec.{leb, eqb, lit<}
 use lib.Pow.{pow_mono, pow_pos, shl_exact}
+use Rattle.std.specs.Cmp.Derive.{one_truth}
 use Rattle.window.specs.Window.{place, none_above, NoneAbove, sound_window, marked, trailing_ones, moved, advanced}
 use Rattle.window.specs.declared.Window.{Window}
 use Rattle.window.proofs.Bits.{even_is_clear, bit_none, bit_above, highest_is_set, ones_at_most, zeros_of_complement}
 use Rattle.window.proofs.Sound.{none_above_says, none_above_passes, sound_passes, advancing_keeps_run_within}
 
 -- ---- soundness
-
-same_truth : (a b : Bool) → (a ≡ true → b ≡ true) → (b ≡ true → a ≡ true) → a ≡ b
-same_truth true b there back = sym (there refl)
-same_truth false true there back = back refl
-same_truth false false there back = refl
 
 module _ (bound : ℕ) (w : Window) (h : w.run ≤ bound) where
   small_has_none_above : w.ahead < 2 ^ (bound - w.run) → NoneAbove bound w
@@ -33,7 +29,7 @@ module _ (bound : ℕ) (w : Window) (h : w.run ≤ bound) where
 
   by_highest : (j : ℕ) → j < 64 → 2 ^ j ≤ w.ahead → w.ahead < 2 ^ suc j → leb (suc j) (bound - w.run) ≡ none_above bound w
   by_highest j i low high =
-      same_truth (leb (suc j) (bound - w.run)) (none_above bound w)
+      one_truth (leb (suc j) (bound - w.run)) (none_above bound w)
       (λ e. none_above_passes bound w (small_has_none_above (lt_of_lt_of_le high (pow_mono (leb-true (suc j) (bound - w.run) e)))))
       (λ e. le-leb (suc j) (bound - w.run) (omega (arith, none_above_says bound w e j i (highest_is_set w.ahead j low high))))
 

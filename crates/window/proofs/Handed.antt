@@ -3,13 +3,14 @@
 use Prim.Native.Nat.{ℕ, ◌+◌, ◌^◌, ◌≤◌, ◌<◌}
 use mathlib.Core.Path.{◌≡◌, sym, ap₂, ◌∙◌}
 use mathlib.Core.Bool.{true, false, ◌||◌, true≢false}
-use native.Mathlib.Decide.{ℕ_discrete, dec_le}
+use native.Mathlib.Decide.{dec_le}
 use native.Mathlib.Nat.{add-zero, lt_of_le_of_lt}
 use native.Mathlib.Omega.{arith}
-use borrow.Author.Tests.{eq-eqb, ne_eqb, le-leb, lt-leb, leb-true}
+use borrow.Author.Tests.{eq-eqb, eqb-true, le-leb, lt-leb, leb-true}
 use lib.Bits.{or_lt}
 use lib.Dec.{leb, eqb}
 use lib.Pow.{pow-lt, shr_le}
+use Rattle.std.specs.Cmp.Derive.{one_truth}
 use Rattle.window.specs.Window.{bit, place, handed, trailing_ones, marked, advanced, handed_over}
 use Rattle.window.specs.declared.Window.{Window}
 use Rattle.window.proofs.Bits.{bit_above, bit_moved, bit_of_or, bit_power, ones_are_set, next_is_clear}
@@ -39,10 +40,7 @@ not_handed_is_above_run w t e =
 
 same_place : (w : Window) (s t : ℕ) → w.run < s → w.run < t → eqb (place w t) (place w s) ≡ eqb t s
 same_place w s t h l =
-    elim (ℕ_discrete t s) [
-      | yes e ↦ eq-eqb (place w t) (place w s) (omega arith) ∙ sym (eq-eqb t s e)
-      | no n ↦ ne_eqb (place w t) (place w s) (λ e. n (omega arith)) ∙ sym (ne_eqb t s n)
-    ]
+    one_truth _ _ (λ e. eq-eqb t s (omega (arith, eqb-true _ _ e))) (λ e. eq-eqb (place w t) (place w s) (omega (arith, eqb-true _ _ e)))
 
 pub marking_adds_one : (w : Window) (s t : ℕ) → w.run < s → handed (marked w s) t ≡ (handed w t || eqb t s)
 unfolding marked

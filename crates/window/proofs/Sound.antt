@@ -7,12 +7,12 @@ use mathlib.Core.Logic.{⊎_elim}
 use native.Mathlib.Decide.{ℕ_discrete, dec_lt}
 use native.Mathlib.Nat.{le_trans, eq-zero-or-pos}
 use native.Mathlib.Omega.{arith}
-use borrow.Author.Tests.{ne_eqb, le-leb, leb-true, not-true}
+use Rattle.std.proofs.lemmas.Bool.{ne_eqb, le-leb, leb-true, not-true, and_parts, cases_Bool}
 use lib.Dec.{leb, lit<}
-use Rattle.vectors.proofs.Every.{and_both, all_at, all_of}
+use Rattle.vectors.proofs.Every.{all_at, all_of}
 use Rattle.window.specs.Window.{fresh_window, bit, place, handed, none_above, NoneAbove, sound_window, SoundWindow, marked, trailing_ones, advanced, handed_over}
 use Rattle.window.specs.declared.Window.{Window}
-use Rattle.window.proofs.Bits.{true_or_false, bit_none, bit_above, bit_moved, bit_of_or, bit_power, ones_at_most, ones_are_set}
+use Rattle.window.proofs.Bits.{bit_none, bit_above, bit_moved, bit_of_or, bit_power, ones_at_most, ones_are_set}
 use Rattle.window.proofs.Handed.{above_run_is_its_bit, marked_fits, handed_over_clears_next}
 
 -- ---- the tests and the facts
@@ -27,14 +27,14 @@ module _ (bound : ℕ) (w : Window) where
   none_above_passes none =
       all_of _ 64 (λ b h.
       ⊎_elim (λ (set : bit w.ahead b ≡ true). rw set (le-leb (w.run + 1 + b) bound (none b h set))) (λ (clear : bit w.ahead b ≡ false). rw clear)
-      (true_or_false (bit w.ahead b)))
+      (cases_Bool (bit w.ahead b)))
 
 module _ (past : ℕ) (w : Window) where
   pub sound_says : sound_window past w ≡ true → SoundWindow past w
   unfolding sound_window
   sound_says e =
-      let run = and_both (leb w.run past) _ e in
-      let ahead = and_both (not (bit w.ahead 0)) _ run.1 in
+      let run = and_parts (leb w.run past) _ e in
+      let ahead = and_parts (not (bit w.ahead 0)) _ run.1 in
       record {
         next_clear = not-true (bit w.ahead 0) ahead.0;
         run_within = leb-true w.run past run.0;
@@ -113,7 +113,7 @@ nothing_above_past_is_handed_over past w t e fits h =
     above_run_is_its_bit w t (omega arith)
     ∙ elim (dec_lt (place w t) 64) [
       | yes inside ↦ ⊎_elim (λ (set : bit w.ahead (place w t) ≡ true). absurd (omega (arith, sound.marks_within (place w t) inside set))) (λ clear. clear)
-          (true_or_false (bit w.ahead (place w t)))
+          (cases_Bool (bit w.ahead (place w t)))
       | no above ↦ bit_above w.ahead 64 (place w t) fits (omega arith)
     ]
 

@@ -1,5 +1,5 @@
 -- `read_message` meets its contract: the first point that fails, else what the fields say.
-use Rattle.std.proofs.Common.{ℕ, List, ◌+◌, ◌*◌, ◌≡◌, sym, ap, ◌∙◌, arith}
+use Rattle.std.proofs.Common.{ℕ, List, ◌+◌, ◌*◌, ◌≡◌, sym, ◌∙◌, arith}
 use Rattle.vectors.specs.Vectors.{vector}
 use Rattle.vectors.specs.Bytes.{number_at}
 use Rattle.std.proofs.lemmas.Result.{err_from_is_err_and}
@@ -17,32 +17,21 @@ returns-in_err-heading-clause-point c =
     rw (p.1, p.2) (is ∙ sym (bad_head _ (λ e. point_is_not_zero _ (is ∙ e))))
 
 pub fields-past-requires : goal.fields-past-requires
-fields-past-requires c =
-    let h = head_has _ (sym c.in_ok-heading.ensures.point) in
-    let n = ap (λ (h : Heading). h.n) c.in_ok-heading.ensures.heading in
-    (omega arith, omega arith)
+fields-past-requires c = let h = head_has _ (sym c.in_ok-heading.ensures.point) in rw c.in_ok-heading.ensures.heading (omega arith, omega arith)
 
 pub fields-barrier-requires : goal.fields-barrier-requires
-fields-barrier-requires c =
-    let h = head_has _ (sym c.in_ok-heading.ensures.point) in
-    let n = ap (λ (h : Heading). h.n) c.in_ok-heading.ensures.heading in
-    (omega arith, omega arith)
+fields-barrier-requires c = let h = head_has _ (sym c.in_ok-heading.ensures.point) in rw c.in_ok-heading.ensures.heading (omega arith, omega arith)
 
 pub invariant_of-message : goal.invariant_of-message
 invariant_of-message c =
     let h = head_has _ (sym c.in_ok-heading.ensures.point) in
-    let n = ap (λ (h : Heading). h.n) c.in_ok-heading.ensures.heading in
-    let s = ap (λ (h : Heading). h.sender.0) c.in_ok-heading.ensures.heading in
-    record { seats_high = omega arith; sender_low = omega arith; sender_high = omega arith }
+    rw c.in_ok-heading.ensures.heading (record { seats_high = omega arith; sender_low = omega arith; sender_high = omega arith })
 
 -- points 7 and 8 of what was read are the packet's
 points_said : (packet : List ℕ) {past barrier : List ℕ} {heading : Heading} → 0 ≡ head_point packet → heading ≡ headed (kind_of packet) (header_of packet)
     → past ≡ vector heading.n (λ k. number_at 2 packet (head_len + 2 * k)) → barrier ≡ vector heading.n (λ k. number_at 2 packet (head_len + 2 * heading.n + 2 * k))
     → vectors_point heading.kind heading.sender past barrier ≡ first_bad_point packet
-points_said packet passes h p b =
-    let past_is = p ∙ (λ i. vector (h i).n (λ k. number_at 2 packet (head_len + 2 * k))) in
-    let barrier_is = b ∙ (λ i. vector (h i).n (λ k. number_at 2 packet (head_len + 2 * (h i).n + 2 * k))) in
-    (λ i. vectors_point (h i).kind (h i).sender (past_is i) (barrier_is i)) ∙ sym (bad_vectors _ (sym passes))
+points_said packet passes h p b = rw (p, b, h) (sym (bad_vectors _ (sym passes)))
 
 pub returns-in_err-check-clause-point : goal.returns-in_err-check-clause-point
 returns-in_err-check-clause-point c =

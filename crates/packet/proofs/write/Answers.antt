@@ -1,11 +1,6 @@
 -- `write` meets its contract: each way out is a law of writing's answers.
-use Rattle.std.proofs.Common.{◌≡◌, ◌≤◌, sym, ◌∙◌, length, rules, arith}
+use Rattle.std.proofs.Common.{◌≡◌, ◌≤◌, sym, length, rules, arith}
 use Rattle.packet.proofs.Laid.{at_start_lem, answer_14, answer_13, answer_0, refused_write, done_write}
-use Rattle.std.proofs.lemmas.List.Edits.{sets}
-use Rattle.answers.specs.Answers.{edit_no}
-use Rattle.vectors.specs.Vectors.{entry}
-use Rattle.packet.specs.Reading.{header_in}
-use Rattle.packet.specs.Writing.{packet_of}
 use Rattle.packet.proofs.Writable.{is_in_range, can_be_written}
 use Rattle.packet.proofs.write.Goals as goal
 
@@ -25,9 +20,6 @@ returns c =
     let r = is_in_range _ (can_be_written _ _ _ _ good).range in
     let p : a.header.n ≤ length a.past = omega arith in
     let b : a.header.n ≤ length a.barrier = omega arith in
-    let number_is = c.number.ensures ∙ (λ i. edit_no (entry (said.past i) (said.heading i).sender)) in
-    rw number_is
+    rw (c.number.ensures, c.put.ensures, said.heading, said.past, said.barrier)
     (done_write _ _ _ _ _ _ _ (answer_0 _ _ _ _ _ _ (omega arith) good c.if-out-length.false)
-    (c.put.ensures
-    ∙ (λ i. sets a.out.now 0 (packet_of (said.heading i).kind (header_in (said.heading i)) (said.past i) (said.barrier i) a.body.now))
-    ∙ at_start_lem a.kind a.header a.past a.barrier a.body.now p b a.out.now c.if-out-length.false))
+    (at_start_lem a.kind a.header a.past a.barrier a.body.now p b a.out.now c.if-out-length.false))

@@ -1,11 +1,11 @@
 -- `tautrobin_arrive` meets its contract: each way out is a law of the call.
-use Rattle.std.proofs.Common.{ap, ◌∙◌, length, arith}
-use Rattle.tautrobin.proofs.ArriveCall.{arrive_wrong_length_is_10, arrive_steps, stepped_arrive_is_numbered, refused_arrive_call, stepped_arrive_call}
+use Rattle.std.proofs.Common.{ap, ◌∙◌, length}
+use Rattle.tautrobin.proofs.ArriveCall.{arrive_wrong_length_is_10, stepped_arrive_is_numbered, stepped_arrive_call}
 use Rattle.tautrobin.proofs.tautrobin_arrive.Goals as goal
 
 pub returns-then-state-ne-IMAGE_SIZE : goal.returns-then-state-ne-IMAGE_SIZE
 returns-then-state-ne-IMAGE_SIZE c =
-    rw c.number.ensures (refused_arrive_call _ _ _ 10 (omega arith) (arrive_wrong_length_is_10 _ _ _ c.if-state-ne-IMAGE_SIZE.true))
+    rw c.number.ensures (arrive_wrong_length_is_10 _ _ _ c.if-state-ne-IMAGE_SIZE.true)
 
 pub keep-requires-clause-can : goal.keep-requires-clause-can
 keep-requires-clause-can c image same done =
@@ -13,4 +13,4 @@ keep-requires-clause-can c image same done =
 
 pub returns : goal.returns
 returns c =
-    stepped_arrive_call _ _ _ _ _ _ _ _ c.decode-seat.ensures.0 (arrive_steps _ _ _ c.if-state-ne-IMAGE_SIZE.false) c.arrive.ensures c.keep.ensures
+    stepped_arrive_call _ _ _ _ _ _ _ _ c.if-state-ne-IMAGE_SIZE.false c.decode-seat.ensures.0 c.arrive.ensures c.keep.ensures

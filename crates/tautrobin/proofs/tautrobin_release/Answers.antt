@@ -1,11 +1,11 @@
 -- `tautrobin_release` meets its contract: each way out is a law of the call.
-use Rattle.std.proofs.Common.{ap, ◌∙◌, length, arith}
-use Rattle.tautrobin.proofs.ReleaseCall.{release_wrong_length_is_10, release_steps, stepped_release_is_numbered, refused_release_call, stepped_release_call}
+use Rattle.std.proofs.Common.{ap, ◌∙◌, length}
+use Rattle.tautrobin.proofs.ReleaseCall.{release_wrong_length_is_10, stepped_release_is_numbered, stepped_release_call}
 use Rattle.tautrobin.proofs.tautrobin_release.Goals as goal
 
 pub returns-then-state-ne-IMAGE_SIZE : goal.returns-then-state-ne-IMAGE_SIZE
 returns-then-state-ne-IMAGE_SIZE c =
-    rw c.number.ensures (refused_release_call _ _ _ 10 (omega arith) (release_wrong_length_is_10 _ _ _ c.if-state-ne-IMAGE_SIZE.true))
+    rw c.number.ensures (release_wrong_length_is_10 _ _ _ c.if-state-ne-IMAGE_SIZE.true)
 
 pub keep-requires-clause-can : goal.keep-requires-clause-can
 keep-requires-clause-can c image same done =
@@ -13,4 +13,4 @@ keep-requires-clause-can c image same done =
 
 pub returns : goal.returns
 returns c =
-    stepped_release_call _ _ _ _ _ _ _ _ _ c.decode-seat.ensures.0 (release_steps _ _ _ c.if-state-ne-IMAGE_SIZE.false) c.release.ensures c.keep.ensures
+    stepped_release_call _ _ _ _ _ _ _ _ _ c.if-state-ne-IMAGE_SIZE.false c.decode-seat.ensures.0 c.release.ensures c.keep.ensures

@@ -1,6 +1,5 @@
 -- `tautrobin_send` meets its contract: each way out is a law of the call.
 use Rattle.std.proofs.Common.{sym, ap, length, ◌∙◌, arith}
-use Rattle.seat.specs.State.{sound_state}
 use Rattle.tautrobin.specs.Image.{decoded}
 use Rattle.tautrobin.proofs.SendCall.{send_wrong_length_is_10, unsound_send_is_10, no_such_kind_is_22, send_steps, stepped_send_recounts, refused_send_call, stepped_send_call}
 use Rattle.tautrobin.proofs.tautrobin_send.Goals as goal
@@ -11,16 +10,13 @@ returns-then-state-ne-IMAGE_SIZE c =
 
 pub returns-then-is_sound : goal.returns-then-is_sound
 returns-then-is_sound c =
-    let soundness = c.is_sound.ensures ∙ ap sound_state c.decode-seat.ensures.0 in
     rw c.number-then-is_sound.ensures
-    (refused_send_call _ _ _ _ 22 (omega arith)
-    (no_such_kind_is_22 _ _ _ _ c.if-state-ne-IMAGE_SIZE.false (sym soundness ∙ c.if-is_sound.true) c.in_default.ensures))
+    (refused_send_call _ _ _ _ 22 (omega arith) (no_such_kind_is_22 _ _ _ _ c.if-state-ne-IMAGE_SIZE.false (cc c.decode-seat.ensures.0) c.in_default.ensures))
 
 pub returns-in_default : goal.returns-in_default
 returns-in_default c =
-    let soundness = c.is_sound.ensures ∙ ap sound_state c.decode-seat.ensures.0 in
     rw c.number-in_default.ensures
-    (refused_send_call _ _ _ _ 10 (omega arith) (unsound_send_is_10 _ _ _ _ c.if-state-ne-IMAGE_SIZE.false (sym soundness ∙ c.if-is_sound.false)))
+    (refused_send_call _ _ _ _ 10 (omega arith) (unsound_send_is_10 _ _ _ _ c.if-state-ne-IMAGE_SIZE.false (cc c.decode-seat.ensures.0)))
 
 pub keep-requires-clause-can : goal.keep-requires-clause-can
 keep-requires-clause-can c image same done =

@@ -3,7 +3,6 @@ use Rattle.std.proofs.Common.{◌≡◌, ◌-◌, ◌<◌, get_or, sym, ap, ◌�
 use Rattle.answers.specs.declared.Answer.TheVariants.{Done}
 use Rattle.packet.specs.Reading.{headed}
 use Rattle.packet.specs.declared.Kind.{Kind}
-use Rattle.packet.specs.declared.Heading.{Heading}
 use Rattle.seat.specs.State.{own_count, header_of, Held}
 use Rattle.seat.specs.Sending.{barrier_sent, sent_seat}
 use Rattle.seat.proofs.Sound.{sound_says}
@@ -43,12 +42,6 @@ past_sent-past-requires c =
     let fits : Fits w16 (get_or c.args.self.past (c.args.self.own.0 - 1) 0) = search rules in
     let not_full : own_count c.args.self ≡ 65535 → ⊥ = λ e. c.if-count.false (c.own_count-count.ensures ∙ e) in
     (s.own_low, omega arith, omega (arith, not_full, fits))
-
-pub message_sent-requires-clause-sound : goal.message_sent-requires-clause-sound
-message_sent-requires-clause-sound c = sym c.is_sound.ensures ∙ c.if-not-is_sound.false
-
-pub put-requires-clause-room : goal.put-requires-clause-room
-put-requires-clause-room c = let n = ap (λ (h : Heading). h.n) c.message_sent.ensures.heading in omega arith
 
 pub returns : goal.returns
 returns c =

@@ -1,6 +1,6 @@
 -- `place_of` meets its contract: each way out is a law of the answer of an arrival that is admitted.
 use Rattle.std.proofs.Common.{is_some, sym, ap, ◌∙◌, le_antisymm, arith}
-use Rattle.shelf.proofs.Lowest.{lowest_is_lowest, none_is_past, some_is_below, some_is_it}
+use Rattle.shelf.proofs.Lowest.{lowest_is_lowest, none_is_past, some_is_below}
 use Rattle.seat.proofs.Admitting.{ready_refused, ready_done, wait_refused, wait_shelved}
 use Rattle.seat.proofs.arrival.place_of.Goals as goal
 
@@ -21,8 +21,3 @@ pub returns-in-Some-clause-answer : goal.returns-in-Some-clause-answer
 returns-in-Some-clause-answer c edit =
     let below = some_is_below _ _ _ c.lowest_free.ensures (ap is_some c.in-Some.is) in
     sym (wait_shelved _ _ _ _ _ _ (sym c.is_ready.ensures ∙ c.if-is_ready.false) (λ e. omega (arith, e, below)))
-
-pub returns-in-Some-clause-slot : goal.returns-in-Some-clause-slot
-returns-in-Some-clause-slot c =
-    let it = some_is_it _ _ _ c.lowest_free.ensures _ c.in-Some.is in
-    (it.1, it.0)

@@ -60,8 +60,8 @@ returns-in-Ok-Seat c =
 lowest : (c : In-Ok-Slot) → (c.in-Ok-Slot.free < slots c.args.shelf.now) × (c.in-Ok-Slot.free ≡ lowest_free c.args.shelf.now)
 lowest c = IfOk-at_ok (GoesToLowest c.args.shelf.now) (c.in-Ok-Slot.is ∙ ap (λ (p : Place). Ok p) c.in-Ok-Slot.field-0-is) c.judge.ensures.slot
 
-pub lay-requires : goal.lay-requires
-lay-requires c = record { there = (lowest (goal.at.lay-requires c).In-Ok-Slot).0; short = (heard_sizes _ _ _ _ _ _ _ c.requires).short }
+pub lay-requires-clause-short : goal.lay-requires-clause-short
+lay-requires-clause-short c = (heard_sizes _ _ _ _ _ _ _ c.requires).short
 
 pub returns-in-Ok-Slot : goal.returns-in-Ok-Slot
 returns-in-Ok-Slot c =

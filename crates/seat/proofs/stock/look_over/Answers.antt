@@ -1,10 +1,7 @@
 -- `look_over` meets its contract.
 use Rattle.std.proofs.Common.{sym, ◌∙◌}
-use Rattle.seat.proofs.LookedOver.{unsound_state, broken_slots, surveyed_shelf}
+use Rattle.seat.proofs.LookedOver.{broken_slots, surveyed_shelf}
 use Rattle.seat.proofs.stock.look_over.Goals as goal
-
-pub returns-then-not-is_sound : goal.returns-then-not-is_sound
-returns-then-not-is_sound c = unsound_state c.args.choosing _ _ (sym c.is_sound.ensures ∙ c.if-not-is_sound.true)
 
 pub returns-then-not-has_whole_slots : goal.returns-then-not-has_whole_slots
 returns-then-not-has_whole_slots c =

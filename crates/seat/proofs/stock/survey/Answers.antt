@@ -14,9 +14,6 @@ loop-i-init c =
     let none : enumerate_count c.into_iter-i-iterator.result ≡ 0 = search rules in
     record { inside = omega (arith, none); size = search rules; left = search rules; long = search rules; looked = rw none (looked_at_none _ _ _) }
 
-pub is_free-requires : goal.is_free-requires
-is_free-requires c = let s = c.in-Some.ensures.steps in s.0.1.1 ∙ c.loop-i.invariant.size
-
 pub look-requires : goal.look-requires
 look-requires c =
     let s = c.in-Some.ensures.steps in

@@ -13,9 +13,8 @@ use Rattle.seat.proofs.ChosenPacket.{chosen_sizes, chosen_is_due, chosen_edit, c
 use Rattle.seat.proofs.ReleaseAnswers.{no_room_answers_13, above_answers_23, releasing_answers_0, refused_release, done_release, body_at_start}
 use Rattle.seat.proofs.taking.hand_out.Goals as goal
 
-pub held_in-packet-requires : goal.held_in-packet-requires
-held_in-packet-requires c =
-    record { whole = ap length c.slot.ensures ∙ length_slot_at _ _ c.requires.chosen.there; well_formed = rw c.slot.ensures c.requires.is_well_formed }
+pub held_in-packet-requires-clause-whole : goal.held_in-packet-requires-clause-whole
+held_in-packet-requires-clause-whole c = ap length c.slot.ensures ∙ length_slot_at _ _ c.requires.chosen.there
 
 pub edit_in-edit-requires-clause-body : goal.edit_in-edit-requires-clause-body
 edit_in-edit-requires-clause-body c =

@@ -1,14 +1,14 @@
 -- `put_fields` meets its contract.
 use Rattle.std.proofs.Common.{◌≡◌, ◌*◌, ◌++◌, ◌∙◌, refl, sym, ap, length, take, arith, rules, ◌+◌}
-use lib.Seq.{sets, take-length}
+use lib.Seq.{sets}
 use Rattle.vectors.specs.Bytes.{fields_of, bytes_of}
-use Rattle.vectors.proofs.Numbers.{length_fields, fields_more, put_none, put_more, put_all}
+use Rattle.vectors.proofs.Numbers.{length_fields, fields_more, put_more}
 use Rattle.vectors.proofs.Vector.{length_numbers, numbers_at}
 use Rattle.vectors.proofs.bytes.put_fields.Goals as goal
 
 pub loop-k-init : goal.loop-k-init
 unfolding fields_of
-loop-k-init g c = put_none _ _ _ _ refl
+loop-k-init g c = record { low = omega arith; long = refl; is = refl }
 
 pub loop-k-preserved : goal.loop-k-preserved
 loop-k-preserved g c =
@@ -22,10 +22,3 @@ loop-k-preserved g c =
     put_more _ _ _ _ _ _ _ _ _ c.loop-k.invariant (omega arith)
     (fields_more t.WIDTH v c.loop-k.k (omega arith) ∙ ap (λ x. fields_of t.WIDTH (take c.loop-k.k v) ++ bytes_of t.WIDTH x) here)
     (omega (arith, so_far)) written
-
-pub returns : goal.returns
-returns g c =
-    let t = g.T.Number in
-    let v = t.numbers c.args.v.now in
-    let long : length v ≡ length c.args.v.now = length_numbers t.number t.numbers g.met.T.Number.numbers_each c.args.v.now in
-    put_all _ _ _ _ _ _ c.loop-k.invariant (omega arith) ∙ ap (λ n. sets c.args.out.now c.args.i (fields_of t.WIDTH (take n v))) (sym long) ∙ ap (λ l. sets c.args.out.now c.args.i (fields_of t.WIDTH l)) (take-length v)

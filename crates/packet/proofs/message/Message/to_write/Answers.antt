@@ -16,15 +16,13 @@ unfolding writable
 returns-then-not-is_in_range-clause-some c = simp (sym c.is_in_range.ensures ∙ c.if-not-is_in_range.true)
 
 pub is_zero_above-requires : goal.is_zero_above-requires
-is_zero_above-requires c = let r = is_in_range _ (sym c.is_in_range.ensures ∙ c.if-not-is_in_range.false) in omega arith
+is_zero_above-requires c = let r = is_in_range c.args.header (cc) in omega arith
 
 pub is_zero_above-requires-2 : goal.is_zero_above-requires-2
-is_zero_above-requires-2 c = let r = is_in_range _ (sym c.is_in_range.ensures ∙ c.if-not-is_in_range.false) in omega arith
+is_zero_above-requires-2 c = let r = is_in_range c.args.header (cc) in omega arith
 
 pub invariant_of-message : goal.invariant_of-message
-invariant_of-message c =
-    let r = is_in_range _ (sym c.is_in_range.ensures ∙ c.if-not-is_in_range.false) in
-    record { seats_high = r.seats_high; sender_low = r.sender_low; sender_high = r.sender_high }
+invariant_of-message c = let r = is_in_range c.args.header (cc) in record { seats_high = r.seats_high; sender_low = r.sender_low; sender_high = r.sender_high }
 
 pub returns-clause-some : goal.returns-clause-some
 unfolding writable

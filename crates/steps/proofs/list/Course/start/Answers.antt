@@ -1,14 +1,9 @@
 -- `start` meets its contract.
-use Rattle.std.proofs.Common.{◌≡◌, length, rules}
+use Rattle.std.proofs.Common.{ap}
+use Rattle.steps.specs.Course.{number_at}
 use Rattle.steps.proofs.Printing.{start_ready, start_prints}
 use Rattle.steps.proofs.list.Course.start.Goals as goal
 
-pub returns-clause-ready : goal.returns-clause-ready
-returns-clause-ready c =
-    let long : length c.new.result.bytes ≡ 20 = search rules in
-    start_ready _ _ c.new.ensures long c.new-2.ensures.bounded
-
-pub returns-clause-prints : goal.returns-clause-prints
-returns-clause-prints c =
-    let long : length c.new.result.bytes ≡ 20 = search rules in
-    start_prints _ _ c.new.ensures long c.new-2.ensures.bounded
+pub returns : goal.returns
+returns c =
+    record { ready = start_ready _ c.fresh.ensures; number = ap number_at c.fresh.ensures.stage_is; prints = start_prints _ c.fresh.ensures }

@@ -1,25 +1,22 @@
 -- `take_line` meets its contract.
-use Rattle.steps.specs.Memory.{session_in}
-use Rattle.steps.specs.Course.{line_in}
-use Rattle.steps.proofs.Printing.{taken_alike, first_line_is, walking_line, ended_line, list_ended}
+use Rattle.std.proofs.Common.{ℕ, List, sym, ap}
+use Rattle.steps.specs.Course.{line_in, number_at}
+use Rattle.steps.proofs.Printing.{taken_alike, taken_at, first_line_is, walking_line, ended_line, list_ended}
 use Rattle.steps.proofs.list.Course.take_line.Goals as goal
 
 pub returns-in-First : goal.returns-in-First
 returns-in-First c =
     let a = c.args in
-    let session = session_in a.self.walk a.memory.now.shelves a.memory.now.packets in
-    taken_alike (λ lines. first_line_is a.self.stage a.self.number session (line_in a.self.line) lines c.in-First.is)
-    (c.take_opening.ensures a.self.number)
+    taken_alike (λ lines. first_line_is a.self.stage a.memory.now.shelves a.memory.now.packets (line_in a.self.line) lines c.in-First.is) (c.take_opening.ensures _)
 
 pub returns-in-Walking : goal.returns-in-Walking
 returns-in-Walking c =
     let a = c.args in
-    let session = session_in a.self.walk a.memory.now.shelves a.memory.now.packets in
-    taken_alike (λ lines. walking_line a.self.stage a.self.number session (line_in a.self.line) lines c.in-Walking.is) c.take_step.ensures
+    let walking = c.in-Walking in
+    let alike = λ (lines : List (List ℕ)). walking_line a.self.stage a.memory.now.shelves a.memory.now.packets (line_in a.self.line) lines walking.number walking.walk walking.is in
+    taken_at (sym (ap number_at walking.is)) (taken_alike alike c.take_step.ensures)
 
 pub returns-in-Ended : goal.returns-in-Ended
 returns-in-Ended c =
     let a = c.args in
-    let session = session_in a.self.walk a.memory.now.shelves a.memory.now.packets in
-    list_ended c.ended.ensures c.requires.ready.bounded
-    (λ lines. ended_line a.self.stage a.self.number session (line_in a.self.line) lines c.in-Ended.is)
+    list_ended c.fresh.ensures (λ lines. ended_line a.self.stage a.memory.now.shelves a.memory.now.packets (line_in a.self.line) lines c.in-Ended.is)
