@@ -1,8 +1,8 @@
--- Laws of a list in pieces of one size: a list with other numbers in place of a piece.
-use Prim.Native.Nat.{ℕ, ◌+◌, ◌*◌, ◌-◌, ◌≤◌, ◌<◌}
+-- Laws of a list in pieces of one size: a list with other numbers in place of a piece, and two lists with the same pieces.
+use Prim.Native.Nat.{ℕ, ◌+◌, ◌*◌, ◌-◌, ◌/◌, ◌%◌, ◌≤◌, ◌<◌}
 use mathlib.Core.Path.{◌≡◌, sym, ap, ◌∙◌}
 use mathlib.Core.List.{List, ◌++◌}
-use native.Mathlib.Nat.{mul-suc, mul-le-mul_left}
+use native.Mathlib.Nat.{mul-suc, mul_comm, mul-le-mul_left, div-add-mod, div-lt_iff_lt-mul, mod-lt}
 use native.Mathlib.Decide.{dec_lt}
 use native.Mathlib.Omega.{arith}
 use lib.ListN.{length, get_or, take, drop, length-append, length-drop, get_or-append}
@@ -63,3 +63,17 @@ module _ (size : ℕ) where
             let less : k < size = rw (length_piece (put l i s) j (rw length_put there)) at h in
             get_or-take size (drop (size * j) (put l i s)) k 0 less ∙ get_or-drop (size * j) (put l i s) k 0 ∙ same k less
             ∙ sym (get_or-take size (drop (size * j) l) k 0 less ∙ get_or-drop (size * j) l k 0)
+
+  -- lists of whole pieces with the same pieces are the same
+  pub same_pieces_same_list : (n : ℕ) (a b : List ℕ) → 0 < size → length a ≡ size * n → length a ≡ length b → ((i : ℕ) → i < n → piece a i ≡ piece b i) → a ≡ b
+  same_pieces_same_list n a b some whole long pieces = ext_get_or 0 a b long each
+    where
+      byte_of : (l : List ℕ) (k : ℕ) → get_or l k 0 ≡ get_or (piece l (k / size)) (k % size) 0
+      byte_of l k =
+          ap (λ (p : ℕ). get_or l p 0) (sym (div-add-mod k size)) ∙ sym (get_or-drop (size * (k / size)) l (k % size) 0)
+          ∙ sym (get_or-take size (drop (size * (k / size)) l) (k % size) 0 (mod-lt k some))
+
+      each : (k : ℕ) → k < length a → get_or a k 0 ≡ get_or b k 0
+      each k h =
+          let less : k / size < n = (div-lt_iff_lt-mul some).1 (rw mul_comm (omega arith)) in
+          byte_of a k ∙ ap (λ (l : List ℕ). get_or l (k % size) 0) (pieces (k / size) less) ∙ sym (byte_of b k)

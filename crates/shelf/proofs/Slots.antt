@@ -1,13 +1,25 @@
 -- Laws of slots: a shelf with other bytes in place of a slot, read slot by slot.
-use Prim.Native.Nat.{ℕ, ◌+◌, ◌-◌, ◌*◌, ◌/◌, ◌≤◌, ◌<◌}
+use Prim.Native.Nat.{ℕ, ◌+◌, ◌-◌, ◌*◌, ◌/◌, ◌%◌, ◌≤◌, ◌<◌}
 use mathlib.Core.Path.{◌≡◌, sym, ap, ◌∙◌}
+use mathlib.Core.Bool.{true}
 use mathlib.Core.List.{List, ◌++◌}
 use native.Mathlib.Omega.{arith}
+use lib.Dec.{eqb, leb}
 use lib.ListN.{length, take, drop, length-append, length-drop}
 use lib.Seq.{take_at, drop_at, drop-drop}
 use borrow.Rule.Slice.PartMut.{put_mid, Post-is}
-use Rattle.shelf.specs.Shelf.{slot_size, slots, whole_slots, slot_at, laid}
-use Rattle.shelf.proofs.Pieces.{length_piece, length_put, put_reads_back, put_keeps_others}
+use borrow.Author.Tests.{eqb-true, leb-true}
+use Rattle.std.proofs.lemmas.Bool.{and_parts}
+use Rattle.shelf.specs.Shelf.{slot_size, slots_most, slots, whole_slots, slot_at, laid}
+use Rattle.shelf.proofs.Pieces.{length_piece, length_put, put_reads_back, put_keeps_others, same_pieces_same_list}
+
+-- what the test of whole slots says
+pub whole_is_slots : (shelf : List ℕ) → whole_slots shelf ≡ true → (length shelf ≡ slot_size * slots shelf) × (slots shelf ≤ slots_most)
+unfolding whole_slots
+whole_is_slots shelf whole =
+    let both = and_parts (eqb (length shelf % slot_size) 0) (leb (slots shelf) slots_most) whole in
+    let even = eqb-true (length shelf % slot_size) 0 both.0 in
+    (omega arith, leb-true (slots shelf) slots_most both.1)
 
 -- a slot that is there ends inside the shelf
 pub slot_inside : (shelf : List ℕ) (i : ℕ) → i < slots shelf → slot_size * i + slot_size ≤ length shelf
@@ -47,6 +59,11 @@ module _ (shelf : List ℕ) (i : ℕ) (slot : List ℕ) (there : i < slots shelf
   unfolding slot_at laid
   laying_keeps_others j other also =
       put_keeps_others slot_size shelf i slot (slot_inside shelf i there) long j other (slot_inside shelf j also)
+
+-- shelves of whole slots with the same slots are the same
+pub same_slots_same_shelf : (a b : List ℕ) → whole_slots a ≡ true → length a ≡ length b → ((i : ℕ) → i < slots a → slot_at a i ≡ slot_at b i) → a ≡ b
+unfolding slot_at
+same_slots_same_shelf a b whole long each = same_pieces_same_list slot_size (slots a) a b (omega arith) (whole_is_slots a whole).0 long each
 
 -- a shelf read in chunks of a slot's size: the chunk after i slots is slot i, and at the end none is left
 module _ (shelf : List ℕ) (i : ℕ) (size : ℕ) (rest : List ℕ) (whole : size ≡ slot_size) (left : rest ≡ drop (slot_size * i) shelf) where

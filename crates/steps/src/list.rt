@@ -5,11 +5,12 @@ ghost use Rattle.lines.specs.Lines.{line_feed, read_opening};
 ghost use Rattle.lines.specs.AnswerLine.{answer_most, Wrote};
 ghost use Rattle.lines.specs.Kept.{line_most, NoFeed};
 ghost use Rattle.steps.specs.Session.{opened};
-ghost use Rattle.steps.specs.Memory.{session_in, slots_most, Bounded};
+ghost use Rattle.steps.specs.Memory.{session_in, Bounded};
 ghost use Rattle.steps.specs.Printed.{bad_first, walked_from, walked, printed};
 ghost use Rattle.steps.specs.Course.{text_of, line_in, for_course, still, number_most, is_done, is_over, number_in, Ready, FreshAt, KeptMore, CourseKept, LineTaken, PieceTaken, Finished};
 
 use super::memory::Memory;
+use super::opening::Size;
 use super::walk::{UNKNOWN, Walk};
 use answers::Report;
 use lines::answer::put_answer;
@@ -111,12 +112,10 @@ fn refuse_list() -> Answered
 }
 
 // The list goes on with line two.
-fn begin(n: u32, slots: u32, memory: &mut Memory) -> Answered
-    requires seats { n ≤ 16 }
-    requires slots { slots ≤ slots_most }
-    ensures { (number : ℕ) → LineTaken number (walked 1 (opened n slots)) result memory.new.shelves memory.new.packets }
+fn begin(size: Size, memory: &mut Memory) -> Answered
+    ensures { (number : ℕ) → LineTaken number (walked 1 (opened size.n size.slots)) result memory.new.shelves memory.new.packets }
 {
-    let walk = Walk::open(n as u8, slots as usize, memory);
+    let walk = Walk::open(size, memory);
     Answered {
         course: Course::fresh(Stage::Walking(1, walk)),
         line: None,
@@ -131,7 +130,11 @@ fn take_opening(line: &[u8], memory: &mut Memory) -> Answered
         return refuse_list();
     };
     if (1 <= n) & (n <= 16) & (slots <= 8) {
-        return begin(n, slots, memory);
+        let size = Size {
+            n: n as u8,
+            slots: slots as usize,
+        };
+        return begin(size, memory);
     }
     refuse_list()
 }

@@ -10,46 +10,49 @@ use answers::SeatNo;
 use seat::{NO_SEAT, Seat};
 use shelf::SLOT_SIZE;
 
+// The size of a session that there is room for: its seats, and the slots of each shelf.
+#[derive(Clone, Copy)]
+pub struct Size {
+    pub n: u8,
+    pub slots: usize,
+    pub ghost seats_high: { n ≤ 16 },
+    pub ghost slots_high: { slots ≤ slots_most },
+}
+
 // The seat at an index is opened: its number is one more.
-fn open_at(n: u8, slots: usize, at: usize, memory: &mut Memory) -> Seat
-    requires at { at < n }
-    requires seats { n ≤ 16 }
-    requires slots { slots ≤ slots_most }
-    ensures { OpenedIn n slots at memory.old.shelves result memory.new.shelves }
+fn open_at(size: Size, at: usize, memory: &mut Memory) -> Seat
+    requires { at < size.n }
+    ensures { OpenedIn size.n size.slots at memory.old.shelves result memory.new.shelves }
 {
     let number = at as u8 + 1;
-    let shelf = &mut memory.shelves[piece_at(slots * SLOT_SIZE, at)];
-    Seat::open(n, SeatNo(number), shelf).seat
+    let shelf = &mut memory.shelves[piece_at(size.slots * SLOT_SIZE, at)];
+    Seat::open(size.n, SeatNo(number), shelf).seat
 }
 
 // Seats 1 to n are opened. Each goes to its own index, beside a shelf that is cut by a size, which may be 0, so the loop
 // counts.
-fn open_all(n: u8, slots: usize, memory: &mut Memory) -> [Seat; 16]
-    requires seats { n ≤ 16 }
-    requires slots { slots ≤ slots_most }
-    ensures { AllOpened n n slots result memory.new.shelves }
+fn open_all(size: Size, memory: &mut Memory) -> [Seat; 16]
+    ensures { AllOpened size.n size.n size.slots result memory.new.shelves }
 {
     let mut seats = [NO_SEAT; 16];
-    for at in 0..n as usize {
-        seats[at] = open_at(n, slots, at, memory);
+    for at in 0..size.n as usize {
+        seats[at] = open_at(size, at, memory);
     }
     seats
 }
 
 impl Walk {
-    // The session of n seats, each with a shelf of so many slots. The caller has found both to be in range.
-    pub fn open(n: u8, slots: usize, memory: &mut Memory) -> Walk
-        requires seats { n ≤ 16 }
-        requires slots { slots ≤ slots_most }
+    // The session of that size.
+    pub fn open(size: Size, memory: &mut Memory) -> Walk
         ensures bounded { Bounded result }
-        ensures session { (packets : List ℕ) → session_in result memory.new.shelves packets ≡ opened n slots }
+        ensures session { (packets : List ℕ) → session_in result memory.new.shelves packets ≡ opened size.n size.slots }
     {
         Walk {
-            n,
-            slots,
+            n: size.n,
+            slots: size.slots,
             sends: 0,
             letters: 0,
-            seats: open_all(n, slots, memory),
+            seats: open_all(size, memory),
             edits: [NO_EDIT; 256],
         }
     }

@@ -5,12 +5,12 @@ use Rattle.steps.proofs.opening.open_all.Goals as goal
 
 pub loop-at-preserved : goal.loop-at-preserved
 loop-at-preserved c =
-    let a = c.args in
+    let size = c.args.size in
     let at = c.loop-at in
-    let less : at.at < a.n = omega arith in
-    let inside = opened_inside a.n a.slots c.requires.seats c.requires.slots at.memory.shelves at.at at.invariant.1 less in
+    let less : at.at < size.n = omega arith in
+    let inside = opened_inside size at.memory.shelves at.at at.invariant.1 less in
     let opened = c.open_at.ensures in (
       omega arith,
-      opened_long a.n a.slots at.at at.memory.shelves inside opened ∙ at.invariant.1,
-      one_more_opened a.n a.slots c.requires.seats c.requires.slots at.at at.seats at.memory.shelves c.open_at.result _ less at.invariant.1 at.invariant.2 opened,
+      opened_long size.n size.slots at.at at.memory.shelves inside opened ∙ at.invariant.1,
+      one_more_opened size at.at at.seats at.memory.shelves c.open_at.result _ less at.invariant.1 at.invariant.2 opened,
     )

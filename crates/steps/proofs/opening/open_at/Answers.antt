@@ -8,5 +8,5 @@ pub returns : goal.returns
 returns c =
     let a = c.args in
     let long : length a.memory.now.shelves ≡ shelves_size = search rules in
-    let inside = opened_inside a.n a.slots c.requires.seats c.requires.slots a.memory.now.shelves a.at long c.requires.at in
-    opened_at a.n a.slots a.at c.requires.at c.requires.seats c.requires.slots a.memory.now.shelves _ _ c.open.result _ inside c.piece_at.ensures.start c.piece_at.ensures.end c.open.ensures
+    let inside = opened_inside a.size a.memory.now.shelves a.at long c.requires in
+    opened_at a.size a.at c.requires a.memory.now.shelves _ _ c.open.result _ inside c.piece_at.ensures.start c.piece_at.ensures.end c.open.ensures
