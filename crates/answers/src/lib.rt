@@ -9,7 +9,7 @@ ghost use Rattle.answers.specs.Answers.{refusal_number, bare, report};
 pub struct SeatNo(pub u8);
 
 impl SeatNo {
-    // Where the seat's entry stands in a vector.
+    // Where the seat's entry stands in a vector. The callers have found the number to be 1 or more.
     pub fn index(self) -> usize
         requires { 1 ≤ self.0 }
         ensures { result ≡ self.0 - 1 }
@@ -47,8 +47,8 @@ pub enum Refusal {
     BarrierAbovePast = 23,
 }
 
-// Every answer in one enum, as document 01 has one table. A refused call hands its state back too, so that no call could
-// pass the error of a Result on.
+// Every answer in one enum, as document 01 has one table: `report` and the theorems of Demand1 speak of all its cases,
+// and a refused step hands a state back too, so that no `?` could pass an error on.
 #[derive(Clone, Copy)]
 pub enum Answer {
     Opened,
@@ -59,7 +59,7 @@ pub enum Answer {
 }
 
 // An answer in document 01's numbers, of which some are given by the step list and the C calls alone: an edit of zeros
-// where it names none.
+// where it names none (`bare`), for the C calls pack those zeros.
 #[derive(Clone, Copy)]
 pub struct Report {
     pub answer: u8,

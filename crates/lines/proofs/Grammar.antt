@@ -1,11 +1,12 @@
 -- What a line says, by its words. A number and a letter have no space, so a word that is one is the last.
-use Prim.Native.Nat.{ℕ, suc, ◌<◌}
+use Prim.Native.Nat.{ℕ, suc, ◌≤◌, ◌<◌}
 use mathlib.Core.Path.{◌≡◌, refl, sym, ap, ◌∙◌}
 use mathlib.Core.Bool.{Bool, true, false, cond, ◌&&◌}
 use mathlib.Core.List.{List, [], ◌∷◌}
 use native.Mathlib.Omega.{arith}
 use lib.Dec.{eqb}
-use lib.ListN.{length, get_or}
+use lib.ListN.{length, get_or, take}
+use lib.Seq.{length-take-le}
 use Rattle.std.proofs.lemmas.Bool.{eqb-true, and_parts}
 use Rattle.std.specs.Prelude.{Option, Some, None, option_map, option_and_then}
 use Rattle.std.proofs.lemmas.Bool.{false_from_ne_true}
@@ -44,6 +45,9 @@ worded (byte ∷ rest) = by_space (eqb byte space) refl (worded rest)
     by_space true e so = let s = some_word rest in more 0 (omega arith) (eqb-true byte space e) [] s.0 s.1 (rw (e, s.2))
     by_space false e (one w) = one (rw (e, w))
     by_space false e (more k h at first next others w) = more (suc k) (omega arith) at (byte ∷ first) next others (rw (e, w))
+
+pub word_long : (line : List ℕ) (end : ℕ) → end ≤ length line → end ≡ length (take end line)
+word_long line end inside = sym (length-take-le end line inside)
 
 -- a word with a space is no number and no letter
 spaced_number : (word : List ℕ) (k : ℕ) → k < length word → get_or word k 0 ≡ space → is_number word ≡ false

@@ -14,7 +14,8 @@ pub enum Letter {
     Causal,
 }
 
-// What a line after the first says. A send line may lack its letter.
+// What a line after the first says: a send its seat, and it may lack its letter; an arrival its seat, sender and
+// sequence number; a release its seat.
 #[derive(Clone, Copy)]
 pub enum Step {
     Send(u32, Option<Letter>),
@@ -29,7 +30,7 @@ pub struct Opening {
     pub slots: u32,
 }
 
-// Where the first space stands.
+// Where the first space stands. A step list finds its line feeds alike; a function of both would only name `position`.
 fn first_space(line: &[u8]) -> Option<usize>
     ensures { result ≡ position (λ byte. byte == space) line.now }
 {
@@ -57,7 +58,8 @@ fn is_number(word: &[u8]) -> bool
     (1 <= word.len()) & (word.len() <= 5) & has_digits_alone(word)
 }
 
-// The number that a word of at most 5 digits spells. The caller has found it to be one.
+// The number that a word of at most 5 digits spells. The caller has found it to be one. std parses text, and a line is
+// bytes.
 fn value_of(word: &[u8]) -> u32
     requires { is_number word.now ≡ true }
     ensures { result ≡ number_in word.now }

@@ -36,7 +36,7 @@ pub struct Header {
     pub sender: SeatNo,
 }
 
-// What reading finds: the header with its kind. Document 01 has both.
+// What reading finds: the header with its kind. Document 01 has both, and Demand2 speaks of both (`headed`).
 #[derive(Clone, Copy)]
 pub struct Heading {
     pub n: u8,
@@ -44,7 +44,7 @@ pub struct Heading {
     pub kind: Kind,
 }
 
-// The vectors stand beside the answer, as document 01 has them: 0 above n, and all 0 on a refusal.
+// The vectors stand beside the answer, as document 01 and `read_of` have them: 0 above n, and all 0 on a refusal.
 #[derive(Clone, Copy)]
 pub struct Reading {
     pub answer: Result<Heading, Refusal>,
@@ -105,7 +105,7 @@ pub fn read(packet: &[u8]) -> Reading
     }
 }
 
-// The part of the packet that holds the body; empty on a refusal, as document 01 has it.
+// The part of the packet that holds the body; empty on a refusal, as document 01 and `body_of` have it.
 pub fn body(packet: &[u8]) -> &[u8]
     ensures { result.now ≡ body_of packet.now }
 {
@@ -118,7 +118,7 @@ pub fn body(packet: &[u8]) -> &[u8]
     }
 }
 
-// The packet goes to the start of the output.
+// The packet goes to the start of the output. Its answer is an `Answer`: a step hands it on, and `Written` speaks of it.
 #[tactic(auto, using(crate::proofs::Laid::answer_11, crate::proofs::Laid::long_leaves_output))]
 pub fn write(
     kind: Kind,

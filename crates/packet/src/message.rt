@@ -13,7 +13,7 @@ use answers::EditNo;
 use vectors::bytes::{put_bytes, put_fields};
 use vectors::{is_same, is_within, is_zero_above};
 
-// Its n and sender are in range.
+// Its n and sender are in range. The vectors hold 16 entries whatever n is, as document 01 and `read_of` have them.
 #[derive(Clone, Copy)]
 pub struct Message {
     pub heading: Heading,

@@ -1,4 +1,5 @@
-// The eight points of well-formedness (document 01, "Packet"), and the first six of them.
+// The eight points of well-formedness (document 01, "Packet"), and the test of the first six. A message tests the last
+// two.
 ghost use Rattle.std.specs.Prelude.{◌≡◌, IfOk};
 ghost use Rattle.packet.specs.Packet.{kind_bit, kind_of, head_point};
 ghost use Rattle.packet.specs.Points.{failed};
@@ -64,6 +65,7 @@ pub(crate) fn read_heading(packet: &[u8]) -> Result<Heading, Point>
     })
 }
 
+// The kind by its bit. A conversion from a byte would have to say what the byte's other bits are.
 fn kind_of(second: u8) -> Kind
     ensures { result ≡ kind_bit second }
 {

@@ -6,16 +6,13 @@ use answers::{Answer, SeatNo};
 use packet::{Header, Heading, Kind};
 use std::{fmt, io};
 
-// The first n entries of a vector, each behind a space.
+// The entries of a vector, each behind a space.
 #[derive(Clone, Copy)]
-struct Entries {
-    vector: [u16; 16],
-    n: usize,
-}
+struct Entries<'a>(&'a [u16]);
 
-impl fmt::Display for Entries {
+impl fmt::Display for Entries<'_> {
     fn fmt<W: fmt::Write>(&self, f: &mut fmt::Formatter<W>) -> fmt::Result {
-        for entry in self.vector.iter().take(self.n) {
+        for entry in self.0 {
             write!(f, " {entry}")?;
         }
         Ok(())
@@ -81,8 +78,8 @@ fn show(rt: &impl Print, name: &str, bytes: &[u8]) -> io::Result<()> {
         Ok(heading) => {
             let n = heading.n as usize;
             let headed = Headed(heading);
-            let past_shown = Entries { vector: past, n };
-            let barrier_shown = Entries { vector: barrier, n };
+            let past_shown = Entries(&past[..n]);
+            let barrier_shown = Entries(&barrier[..n]);
             print!(rt; "{name}: {headed}, body of {length}, ")?;
             println!(rt; "past{past_shown}, barrier{barrier_shown}")?;
             again(rt, heading, past, barrier, body)

@@ -25,6 +25,7 @@ use taking::take;
 pub const COUNT_MOST: u16 = 65535;
 
 // The state by value, in document 01's four arrays: tests go over a whole array at once. Entry k - 1 of each is seat k's.
+// The shelf stands beside it throughout, as document 01 has it, for a shelf is lent.
 #[derive(Clone, Copy)]
 pub struct Seat {
     pub n: u8,
@@ -35,7 +36,7 @@ pub struct Seat {
     pub ahead: [u64; 16],
 }
 
-// A state of zeros only, which is not sound.
+// A state of zeros only, which is not sound. A refused open hands it back (`opened_seat`), as each step hands back a state.
 pub const NO_SEAT: Seat = Seat {
     n: 0,
     own: SeatNo(0),
@@ -64,14 +65,7 @@ pub struct Stepped {
 fn counting_from_zero(n: u8, own: SeatNo) -> Seat
     ensures { result ≡ counting n own }
 {
-    Seat {
-        n,
-        own,
-        past: [0; 16],
-        barrier: [0; 16],
-        run: [0; 16],
-        ahead: [0; 16],
-    }
+    Seat { n, own, ..NO_SEAT }
 }
 
 // A refusal, with the state that it hands back.

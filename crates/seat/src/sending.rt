@@ -48,7 +48,8 @@ impl Seat {
         past
     }
 
-    // What the packet says, with the new past. The caller has found the state to be sound.
+    // What the packet says, with the new past, which the step makes once and hands in here and below. The caller has found
+    // the state to be sound.
     pub(crate) fn message_sent(self, kind: Kind, past: [u16; 16]) -> Message
         requires sound { sound_state self ≡ true }
         requires past { past ≡ past_sent self }

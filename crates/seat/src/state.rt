@@ -29,7 +29,7 @@ impl Seat {
         }
     }
 
-    // Whether each sender's window is sound.
+    // Whether each sender's window is sound. Three arrays stand side by side, so the places are gone through.
     fn has_sound_windows(self) -> bool
         ensures { result ≡ sound_windows self }
     {

@@ -6,6 +6,9 @@ use native.Mathlib.Nat.{not-suc-le-zero, le_of_suc-le-suc}
 use native.Mathlib.Omega.{arith}
 use borrow.Author.Tests.{ltb-true, ltb-false, lt-ltb, le-ltb}
 use lib.Dec.{ltb}
+use lib.ListN.{length, get_or}
+use mathlib.Core.List.{List}
+use Rattle.std.specs.List.{HoldsAt, AllWithin}
 use Rattle.std.specs.Prelude.{Option, Some, None, MatchOption, is_some}
 use Rattle.shelf.specs.Shelf.{lowest, slot_or_none}
 
@@ -50,17 +53,24 @@ none_lowest n test none =
 pub lowest_none : (n : ℕ) (test : ℕ → Bool) → lowest n test ≡ n → (k : ℕ) → k < n → test k ≡ false
 lowest_none n test e k h = (lowest_is_lowest n test).fails_below k (omega arith)
 
--- what a search below n found is it, and where nothing was found there is none
-pub found_is_lowest : (n : ℕ) (test : ℕ → Bool) (r : Option ℕ)
-    → MatchOption r ((k : ℕ) → 0 ≤ k → k < n → test k ≡ false) (λ i. (0 ≤ i) × (i < n) × (test i ≡ true) × ((k : ℕ) → 0 ≤ k → k < i → test k ≡ false))
-    → r ≡ slot_or_none n (lowest n test)
-found_is_lowest n test None none =
-    let is : lowest n test ≡ n = none_lowest n test (λ k h. none k (omega arith) h) in
-    rw (is, le-ltb n n (omega arith))
-found_is_lowest n test (Some i) found =
-    let is : i ≡ lowest n test =
-    only_lowest n test i (record { most = omega (arith, found.1); fails_below = λ k h. found.3 k (omega arith) h; holds = λ h. found.2 }) in
-    rw (← is, lt-ltb i n found.1)
+-- what a search of a list found is it, and where nothing was found there is none
+pub found_is_lowest : {A : Type 0} (items : List A) (passes : A → Bool) (test : ℕ → Bool) (r : Option ℕ)
+    → ((k : ℕ) (other : A) → k < length items → passes (get_or items k other) ≡ test k) → A
+    → MatchOption r (AllWithin (λ x. passes x ≡ false) items 0 (length items))
+    (λ i. (i < length items) × HoldsAt (λ x. passes x ≡ true) items i × AllWithin (λ x. passes x ≡ false) items 0 i)
+    → r ≡ slot_or_none (length items) (lowest (length items) test)
+found_is_lowest items passes test None same other none =
+    let is : lowest (length items) test ≡ length items = none_lowest (length items) test (λ k h. sym (same k other h) ∙ none k other (omega arith) h) in
+    rw (is, le-ltb (length items) (length items) (omega arith))
+found_is_lowest items passes test (Some i) same other found =
+    let is : i ≡ lowest (length items) test =
+    only_lowest (length items) test i
+    (record {
+      most = omega (arith, found.0);
+      fails_below = λ k h. sym (same k other (omega (arith, found.0))) ∙ found.2 k other (omega arith) h;
+      holds = λ h. sym (same i other h) ∙ found.1 other;
+    }) in
+    rw (← is, lt-ltb i (length items) found.0)
 
 -- ---- an index below n, or none
 

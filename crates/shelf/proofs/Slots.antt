@@ -1,15 +1,16 @@
 -- Laws of slots: a shelf with other bytes in place of a slot, read slot by slot.
-use Prim.Native.Nat.{ℕ, ◌+◌, ◌-◌, ◌*◌, ◌/◌, ◌%◌, ◌≤◌, ◌<◌}
-use mathlib.Core.Path.{◌≡◌, sym, ap, ◌∙◌}
+use Prim.Native.Nat.{ℕ, zero, suc, ◌+◌, ◌-◌, ◌*◌, ◌/◌, ◌%◌, ◌≤◌, ◌<◌}
+use mathlib.Core.Path.{◌≡◌, ap, ◌∙◌}
 use mathlib.Core.Bool.{true}
 use mathlib.Core.List.{List, ◌++◌}
 use native.Mathlib.Omega.{arith}
 use lib.Dec.{eqb, leb}
-use lib.ListN.{length, take, drop, length-append, length-drop}
-use lib.Seq.{take_at, drop_at, drop-drop}
+use lib.ListN.{length, get_or, take, drop}
+use lib.Seq.{drop-drop}
 use borrow.Rule.Slice.PartMut.{put_mid, Post-is}
 use borrow.Author.Tests.{eqb-true, leb-true}
 use Rattle.std.proofs.lemmas.Bool.{and_parts}
+use Rattle.std.specs.Simd.{first_chunks}
 use Rattle.shelf.specs.Shelf.{slot_size, slots_most, slots, whole_slots, slot_at, laid}
 use Rattle.shelf.proofs.Pieces.{length_piece, length_put, put_reads_back, put_keeps_others, same_pieces_same_list}
 
@@ -28,6 +29,18 @@ slot_inside shelf i there = omega arith
 pub length_slot_at : (shelf : List ℕ) (i : ℕ) → i < slots shelf → length (slot_at shelf i) ≡ slot_size
 unfolding slot_at
 length_slot_at shelf i there = length_piece slot_size shelf i (slot_inside shelf i there)
+
+-- slot i of the slots that a shelf is cut into
+chunk_at : (n k i : ℕ) (xs other : List ℕ) → i < k → get_or (first_chunks n k xs) i other ≡ take n (drop (n * i) xs)
+chunk_at n zero i xs other h = absurd (omega arith)
+chunk_at n (suc k) zero xs other h = let none : 0 ≡ n * 0 = omega arith in ap (λ (m : ℕ). take n (drop m xs)) none
+chunk_at n (suc k) (suc i) xs other h =
+    let place : n + n * i ≡ n * suc i = omega arith in
+    chunk_at n k i (drop n xs) other (omega arith) ∙ ap (take n) (drop-drop (n * i) n xs ∙ ap (λ (m : ℕ). drop m xs) place)
+
+pub slot_in_chunks : (shelf : List ℕ) (i : ℕ) (other : List ℕ) → i < slots shelf → get_or (first_chunks slot_size (slots shelf) shelf) i other ≡ slot_at shelf i
+unfolding slot_at
+slot_in_chunks shelf i other there = chunk_at slot_size (slots shelf) i shelf other there
 
 -- slot i as it is lent, and the shelf when other bytes come back in its place
 pub slot_lent : (shelf : List ℕ) (i : ℕ) → take (slot_size * i + slot_size - slot_size * i) (drop (slot_size * i) shelf) ≡ slot_at shelf i
@@ -64,25 +77,3 @@ module _ (shelf : List ℕ) (i : ℕ) (slot : List ℕ) (there : i < slots shelf
 pub same_slots_same_shelf : (a b : List ℕ) → whole_slots a ≡ true → length a ≡ length b → ((i : ℕ) → i < slots a → slot_at a i ≡ slot_at b i) → a ≡ b
 unfolding slot_at
 same_slots_same_shelf a b whole long each = same_pieces_same_list slot_size (slots a) a b (omega arith) (whole_is_slots a whole).0 long each
-
--- a shelf read in chunks of a slot's size: the chunk after i slots is slot i, and at the end none is left
-module _ (shelf : List ℕ) (i : ℕ) (size : ℕ) (rest : List ℕ) (whole : size ≡ slot_size) (left : rest ≡ drop (slot_size * i) shelf) where
-  as_long : length rest ≡ length shelf - slot_size * i
-  as_long = ap length left ∙ length-drop (slot_size * i) shelf
-
-  module _ (chunk after : List ℕ) (is : rest ≡ chunk ++ after) (long : length chunk ≡ size) where
-    pub chunk_is_there : i < slots shelf
-    chunk_is_there = omega (arith, as_long, ap length is ∙ length-append chunk after)
-
-    pub chunk_is_slot : chunk ≡ slot_at shelf i
-    unfolding slot_at
-    chunk_is_slot = sym (ap (take slot_size) (sym left ∙ is) ∙ take_at chunk after slot_size (long ∙ whole))
-
-    pub chunk_leaves : after ≡ drop (slot_size * (i + 1)) shelf
-    chunk_leaves =
-        let place : slot_size * i + slot_size ≡ slot_size * (i + 1) = omega arith in
-        sym (drop_at chunk after slot_size (long ∙ whole)) ∙ ap (drop slot_size) (sym is ∙ left) ∙ drop-drop slot_size (slot_size * i) shelf
-        ∙ ap (λ (n : ℕ). drop n shelf) place
-
-  pub none_left : i ≤ slots shelf → length rest < size → i ≡ slots shelf
-  none_left inside short = omega (arith, as_long)

@@ -23,10 +23,11 @@ pub fn is_zero(s: &[u8]) -> bool
     (fours == 0) & (rest == 0)
 }
 
-// Whether a slot is free. One that is in use shows it by its first byte. The callers hand over a whole slot.
+// Whether a slot is free. One that is in use shows it by its first byte. Written out where it is called: a call of it costs
+// an arrival or a release up to 5 % more.
 #[tactic(auto, using(crate::proofs::Zeros::first_byte_not_zero))]
-pub fn is_free(slot: &[u8]) -> bool
-    requires { length slot.now ≡ slot_size }
+#[inline(always)]
+pub fn is_free(slot: &[u8; SLOT_SIZE]) -> bool
     ensures { result ≡ all_zero slot.now }
 {
     slot[0] == 0 && is_zero(slot)
@@ -40,20 +41,18 @@ pub fn has_whole_slots(shelf: &[u8]) -> bool
 }
 
 // The bytes of slot i. The callers have found the slot to be there.
-pub fn slot(shelf: &[u8], i: usize) -> &[u8]
+pub fn slot(shelf: &[u8], i: usize) -> &[u8; SLOT_SIZE]
     requires { i < slots shelf.now }
     ensures { result.now ≡ slot_at shelf.now i }
 {
-    let start = SLOT_SIZE * i;
-    &shelf[start..start + SLOT_SIZE]
+    &shelf.as_chunks::<SLOT_SIZE>().0[i]
 }
 
 // The first free slot.
 pub fn lowest_free(shelf: &[u8]) -> Option<usize>
     ensures { result ≡ slot_or_none (slots shelf.now) (lowest_free shelf.now) }
 {
-    let n = shelf.len() / SLOT_SIZE;
-    (0..n).find(|i| is_free(slot(shelf, *i)))
+    shelf.as_chunks::<SLOT_SIZE>().0.iter().position(is_free)
 }
 
 // A packet goes to slot i: a byte 1, the packet, and zeros to the slot's end. The callers have found the slot to be there

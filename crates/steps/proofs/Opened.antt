@@ -3,7 +3,7 @@ use Prim.Native.Nat.{ℕ, suc, ◌+◌, ◌*◌, ◌-◌, ◌≤◌, ◌<◌}
 use mathlib.Core.Bool.{true}
 use mathlib.Core.Path.{◌≡◌, subst, sym, ap, ◌∙◌}
 use mathlib.Core.List.{List, []}
-use native.Mathlib.Nat.{mul-suc, mul-le-mul_left, mul-mod_left, mul-div_cancel}
+use native.Mathlib.Nat.{mul-suc, mul-le-mul_left, mul-mod_left, mul-div_cancel, not-suc-le-zero}
 use native.Mathlib.Numerals.{add-one}
 use native.Mathlib.Decide.{ℕ_discrete}
 use native.Mathlib.Omega.{arith}
@@ -33,6 +33,10 @@ pub opened_long : (n slots i : ℕ) (shelves : List ℕ) {seat : Seat} {shelves-
     → OpenedIn n slots i shelves seat shelves-left → length shelves-left ≡ length shelves
 opened_long n slots i shelves inside at =
     ap length at.shelves_are ∙ length_put (slots * slot_size) shelves i (replicate (slots * slot_size) 0) inside (length-replicate {A = ℕ} (slots * slot_size) 0)
+
+pub none_opened : (n slots : ℕ) (seats : List Seat) (shelves : List ℕ) → length seats ≡ 16 → AllOpened 0 n slots seats shelves
+none_opened n slots seats shelves long =
+    record { long = long; seat_is = λ i h. absurd (not-suc-le-zero h); shelf_is = λ i h. absurd (not-suc-le-zero h) }
 
 module _ (size : Size) where
   -- the bytes of a shelf

@@ -20,10 +20,11 @@ use vectors::bytes::put_bytes;
 // A readable line is shorter than this.
 const LINE_MOST: usize = 20;
 
-// The part of a line that has come so far. The kit's ArrayVec in place of the length is not Copy, as this is.
+// The part of a line that has come so far.
+// The kit's ArrayVec in place of the length is not Copy, so the public Course, which holds this, would no longer be.
 #[derive(Clone, Copy)]
 pub struct Line {
-    pub bytes: [u8; 20],
+    pub bytes: [u8; LINE_MOST],
     pub length: usize,
 }
 
@@ -35,7 +36,8 @@ pub enum Stage {
     Ended,
 }
 
-// How far a list has come. `Ready` stands in `requires`, since the theorem `WholeInput` speaks of any course.
+// How far a list has come. `Ready` and the number's bound stand in `requires`, since the theorem `WholeInput` speaks of
+// any course.
 #[derive(Clone, Copy)]
 pub struct Course {
     pub stage: Stage,
@@ -61,7 +63,7 @@ impl Line {
         ensures { result.length ≡ 0 }
     {
         Line {
-            bytes: [0; 20],
+            bytes: [0; LINE_MOST],
             length: 0,
         }
     }
@@ -88,7 +90,7 @@ fn line_end(text: &[u8]) -> Option<usize>
     text.iter().position(|byte| *byte == b'\n')
 }
 
-// What is printed for a line goes to the output.
+// What is printed for a line goes to the output. A struct that lends the output with its end would owe a clause on both.
 fn put_line(out: &mut [u8], at: usize, line: Option<(u64, Report)>) -> usize
     requires { at + answer_most ≤ length out.old }
     ensures wrote { Wrote out.old at (text_of line) result out.new }
@@ -107,7 +109,7 @@ fn refuse_list() -> Answered
 {
     Answered {
         course: Course::fresh(Stage::Ended),
-        line: Some((0, UNKNOWN)),
+        line: Some((0, Report::bare(UNKNOWN))),
     }
 }
 

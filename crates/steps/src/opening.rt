@@ -5,8 +5,8 @@ ghost use Rattle.steps.specs.Session.{opened};
 ghost use Rattle.steps.specs.Memory.{slots_most, session_in, Bounded, AllOpened, OpenedIn};
 
 use super::memory::{Memory, piece_at};
-use super::walk::{NO_EDIT, Walk};
-use answers::SeatNo;
+use super::walk::Walk;
+use answers::{Edit, SeatNo};
 use seat::{NO_SEAT, Seat};
 use shelf::SLOT_SIZE;
 
@@ -29,14 +29,13 @@ fn open_at(size: Size, at: usize, memory: &mut Memory) -> Seat
     Seat::open(size.n, SeatNo(number), shelf).seat
 }
 
-// Seats 1 to n are opened. Each goes to its own index, beside a shelf that is cut by a size, which may be 0, so the loop
-// counts.
+// Seats 1 to n are opened.
 fn open_all(size: Size, memory: &mut Memory) -> [Seat; 16]
     ensures { AllOpened size.n size.n size.slots result memory.new.shelves }
 {
     let mut seats = [NO_SEAT; 16];
-    for at in 0..size.n as usize {
-        seats[at] = open_at(size, at, memory);
+    for (at, seat) in seats[..size.n as usize].iter_mut().enumerate() {
+        *seat = open_at(size, at, memory);
     }
     seats
 }
@@ -53,7 +52,7 @@ impl Walk {
             sends: 0,
             letters: 0,
             seats: open_all(size, memory),
-            edits: [NO_EDIT; 256],
+            edits: [Edit::default(); 256],
         }
     }
 }

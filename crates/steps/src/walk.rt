@@ -7,7 +7,7 @@ ghost use Rattle.steps.specs.Session.{send_told, arrive_told, release_told, wish
 ghost use Rattle.steps.specs.Memory.{shelf_size, session_in, Bounded, Walks, index_in, with_edit, walked_to, SentEmpty};
 
 use super::memory::{Memory, piece_at};
-use answers::{Answer, Edit, EditNo, Report, SeatNo};
+use answers::{Answer, Edit, Report};
 use lines::{Letter, Step};
 use packet::HEAD_LEN;
 use seat::{Seat, Stepped, Wish};
@@ -20,21 +20,12 @@ const PACKET_MOST: usize = 67;
 // The send lines that are taken.
 const SENDS_MOST: usize = 256;
 
-// The edit of a report that names none, as a constant, which fills an array too.
-pub const NO_EDIT: Edit = Edit {
-    sender: SeatNo(0),
-    number: EditNo(0),
-    length: 0,
-};
-
 // What a line is answered that cannot be read, or that names no seat or no packet.
-pub const UNKNOWN: Report = Report {
-    answer: 21,
-    edit: NO_EDIT,
-};
+pub const UNKNOWN: u8 = 21;
 
 // A session of n seats, each with a shelf of so many slots. Seat k's state stands at index k - 1, and its shelf at that
-// place of the shelves. Packet i was the i-th that was sent, and carries the edit at i; the kit's ArrayVec is not Copy.
+// place of the shelves. Packet i was the i-th that was sent, and carries the edit at i.
+// The kit's ArrayVec for edits and letters is not Copy, so the public Course, which holds this, would no longer be.
 // Its bounds stand in `requires`: specs/Memory builds walks as records, and a ghost field would stand in each.
 #[derive(Clone, Copy)]
 pub struct Walk {
@@ -71,7 +62,7 @@ fn wish_of(letter: Option<Letter>) -> Wish
     }
 }
 
-// Whether this is the edit of that sender and number.
+// Whether this is the edit of that sender and number, which a line names: they need not be a seat's and an edit's.
 fn carries(edit: Edit, sender: u32, number: u32) -> bool
     ensures { result ≡ ((edit.sender.0 == sender) && (edit.number.0 == number)) }
 {
@@ -109,7 +100,7 @@ impl Walk {
     {
         Walked {
             walk: self,
-            report: UNKNOWN,
+            report: Report::bare(UNKNOWN),
         }
     }
 

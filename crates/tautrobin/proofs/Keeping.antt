@@ -1,6 +1,6 @@
 -- What the steps leave as it was, the numbers that they keep, and how a step's answer and next state stand in the image.
-use Prim.Native.Nat.{ℕ, ◌<◌}
-use mathlib.Core.Path.{◌≡◌, refl, ◌∙◌}
+use Prim.Native.Nat.{ℕ, ◌≤◌, ◌<◌}
+use mathlib.Core.Path.{◌≡◌, refl, sym, ◌∙◌}
 use mathlib.Core.Bool.{true, false}
 use mathlib.Core.List.{List}
 use native.Mathlib.Omega.{arith}
@@ -22,6 +22,7 @@ use Rattle.tautrobin.specs.Image.{image_size, encoded, Recounted, Numbered}
 use Rattle.tautrobin.specs.Calls.{packed, rewritten, wrong_length, Kept}
 use Rattle.seat.specs.declared.Seat.{Seat}
 use Rattle.seat.specs.declared.Stepped.{Stepped}
+use Rattle.tautrobin.proofs.Reporting.{left_alone, goes_in}
 
 -- ---- the image's length
 
@@ -92,6 +93,12 @@ sent_recounts seat kind = record { same_seats = refl; same_own = refl; same_run 
 -- ---- a step's answer, and its image
 
 module _ (image : List ℕ) (stepped : Stepped) (answer : ℕ) (image-left : List ℕ) where
+  pub kept_refused : 1 < (report stepped.answer).answer → answer ≡ packed (report stepped.answer) → image-left ≡ image → Kept stepped image answer image-left
+  kept_refused refused told same = record { answered = told; image_after = same ∙ sym (left_alone (report stepped.answer) _ image refused) }
+
+  pub kept_done : (report stepped.answer).answer ≤ 1 → answer ≡ packed (report stepped.answer) → image-left ≡ encoded stepped.seat → Kept stepped image answer image-left
+  kept_done done told written = record { answered = told; image_after = written ∙ sym (goes_in (report stepped.answer) _ image done) }
+
   -- the answer and the next state of a step are the definition's
   pub kept_answer : (of : Answer) (told : Report) → stepped.answer ≡ of → told ≡ report of → Kept stepped image answer image-left → answer ≡ packed told
   kept_answer of told is reports kept = kept.answered ∙ rw (is, reports)

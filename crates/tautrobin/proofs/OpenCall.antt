@@ -50,6 +50,9 @@ module _ (n own : ℕ) (image shelf : List ℕ) where
   unfolding open_report
   no_such_seat_is_20 out = refuses 20 _ _ _ (rw out)
 
+  pub own_number_above_is_20 : 255 < own → open_report n own image shelf ≡ bare 20
+  own_number_above_is_20 above = no_such_seat_is_20 (no_byte_of_own n own (λ byte. omega arith))
+
   module _ (range : in_range (record { n = n; sender = seat_no own }) ≡ true) where
     pub open_wrong_length_is_10 : (length image ≡ image_size → ⊥) → open_report n own image shelf ≡ bare 10
     unfolding open_report

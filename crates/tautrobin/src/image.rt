@@ -1,8 +1,8 @@
 // The state as it crosses to C: an image of 225 bytes (document 01, "For the package, which is written in C").
-ghost use Rattle.std.specs.Prelude.{◌≡◌, length, set};
+ghost use Rattle.std.specs.Prelude.{◌≡◌, set};
 ghost use Rattle.std.proofs.lemmas.List.Edits.{sets};
 ghost use Rattle.vectors.specs.Bytes.{fields_of};
-ghost use Rattle.tautrobin.specs.Image.{image_size, past_at, barrier_at, decoded, encoded, numbers_byte, Recounted, Numbered};
+ghost use Rattle.tautrobin.specs.Image.{past_at, barrier_at, decoded, encoded, numbers_byte, Recounted, Numbered};
 
 use answers::SeatNo;
 use seat::Seat;
@@ -19,10 +19,8 @@ const RUN_AT: usize = 65;
 
 const AHEAD_AT: usize = 97;
 
-// The state that an image says. The callers have found its length to be right. An Option of the state in place of that
-// misses the speed bar: it is copied once more.
-pub fn decode(image: &[u8]) -> Seat
-    requires { length image.now ≡ image_size }
+// The state that an image says.
+pub fn decode(image: &[u8; IMAGE_SIZE]) -> Seat
     ensures { (result ≡ decoded image.now) × Numbered result }
 {
     let n = image[0] / 16 + 1;
@@ -42,34 +40,32 @@ pub fn decode(image: &[u8]) -> Seat
 }
 
 // n - 1 and own number - 1 go to the first byte.
-fn put_numbers(seat: Seat, image: &mut [u8])
-    requires { (length image.old ≡ image_size) × Numbered seat }
+fn put_numbers(seat: Seat, image: &mut [u8; IMAGE_SIZE])
+    requires { Numbered seat }
     ensures { image.new ≡ set image.old 0 (numbers_byte seat) }
 {
     image[0] = (seat.n - 1) * 16 + (seat.own.0 - 1);
 }
 
 // Past and barrier go to their places.
-fn put_counts(seat: Seat, image: &mut [u8])
-    requires { length image.old ≡ image_size }
+fn put_counts(seat: Seat, image: &mut [u8; IMAGE_SIZE])
     ensures { image.new ≡ sets (sets image.old past_at (fields_of 2 seat.past)) barrier_at (fields_of 2 seat.barrier) }
 {
     put_fields(image, PAST_AT, &seat.past);
     put_fields(image, BARRIER_AT, &seat.barrier);
 }
 
-// The image of a state that is another than the image's in past and barrier alone. The caller has found its length to be
-// right.
-pub fn encode_counts(seat: Seat, image: &mut [u8])
-    requires { (length image.old ≡ image_size) × Recounted seat (decoded image.old) }
+// The image of a state that is another than the image's in past and barrier alone.
+pub fn encode_counts(seat: Seat, image: &mut [u8; IMAGE_SIZE])
+    requires { Recounted seat (decoded image.old) }
     ensures { image.new ≡ encoded seat }
 {
     put_counts(seat, image);
 }
 
-// The image of a state. The callers have found its length to be right, and n and own number to be in range.
-pub fn encode(seat: Seat, image: &mut [u8])
-    requires { (length image.old ≡ image_size) × Numbered seat }
+// The image of a state. The callers have found n and own number to be in range.
+pub fn encode(seat: Seat, image: &mut [u8; IMAGE_SIZE])
+    requires { Numbered seat }
     ensures { image.new ≡ encoded seat }
 {
     put_numbers(seat, image);

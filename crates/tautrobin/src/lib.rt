@@ -15,7 +15,8 @@ use image::{IMAGE_SIZE, decode, encode, encode_counts};
 use packet::Header;
 use seat::{Seat, Stepped, Wish};
 
-// What the calls refuse before the library's step. The four calls keep their type for C, so that it is told by its number.
+// What the calls refuse before the library's step; 22 is no refusal of a step, so that `Refusal` lacks it. The four calls
+// keep their type for C, so that it is told by its number.
 #[derive(Clone, Copy)]
 enum BadCall {
     NotSound = 10,
@@ -32,7 +33,8 @@ impl BadCall {
     }
 }
 
-// The answer as one number: bits 0 to 7 the answer number, 8 to 15 sender, 16 to 31 sequence number, 32 to 47 length.
+// The answer as one number, as C has it (`packed`): bits 0 to 7 the answer number, 8 to 15 sender, 16 to 31 sequence
+// number, 32 to 47 length.
 fn pack(told: Report) -> u64
     ensures { result ≡ packed told }
 {
@@ -43,7 +45,7 @@ fn pack(told: Report) -> u64
     answer + 256 * sender + 65536 * number + 4294967296 * length
 }
 
-// The kind that is wished for, where there is one of this number.
+// The kind that is wished for, where there is one of this number: a function, for neither type is this crate's.
 #[tactic(auto, unfolding(crate::specs::Calls::wish_of))]
 fn wish_of(kind: u32) -> Option<Wish>
     ensures { MatchOption result (kind_most < kind) (λ wish. (kind ≤ kind_most) × (wish ≡ wish_of kind)) }
@@ -69,9 +71,13 @@ fn seat_numbered(n: u32, own: u32) -> Option<Header>
 
 // The answer of a step; on 0 and 1 (`rewritten` speaks of the number) `put` puts the next state into the image.
 #[tactic(auto, using(crate::proofs::Reporting::left_alone, crate::proofs::Reporting::goes_in))]
-fn keep<F: FnOnce(Seat, &mut [u8])>(stepped: Stepped, state: &mut [u8], put: F) -> u64
+fn keep<F: FnOnce(Seat, &mut [u8; IMAGE_SIZE])>(
+    stepped: Stepped,
+    state: &mut [u8; IMAGE_SIZE],
+    put: F,
+) -> u64
     requires can { (image : _) → image.now ≡ state.old → (report stepped.answer).answer ≤ 1 → F.pre put stepped.seat image }
-    requires puts { (image left : _) → image.now ≡ state.old → F.post put stepped.seat image tt left → left.now ≡ encoded stepped.seat }
+    requires puts { (image left : _) → F.post put stepped.seat image tt left → left.now ≡ encoded stepped.seat }
     ensures { Kept stepped state.old result state.new }
 {
     let told = stepped.answer.report();
@@ -81,7 +87,7 @@ fn keep<F: FnOnce(Seat, &mut [u8])>(stepped: Stepped, state: &mut [u8], put: F) 
     pack(told)
 }
 
-// Each call tests the image's length itself: of a step in a closure that is not run, nothing tells that the shelf and the
+// Each call takes the image's array itself: of a step in a closure that is not run, nothing tells that the shelf and the
 // output that it holds stay as they were.
 
 // Opens a seat, and zeroes its shelf.
@@ -91,47 +97,47 @@ pub fn tautrobin_open(n: u32, own: u32, state: &mut [u8], shelf: &mut [u8]) -> u
     let Some(seat) = seat_numbered(n, own) else {
         return BadCall::NoSuchSeat.number();
     };
-    if state.len() != IMAGE_SIZE {
+    let Some(image) = state.as_mut_array::<IMAGE_SIZE>() else {
         return BadCall::NotSound.number();
-    }
-    keep(Seat::open(seat.n, seat.sender, shelf), state, encode)
+    };
+    keep(Seat::open(seat.n, seat.sender, shelf), image, encode)
 }
 
 // Sends an edit: its packet goes to the start of the output.
 pub fn tautrobin_send(state: &mut [u8], kind: u32, body: &[u8], out: &mut [u8]) -> u64
     ensures { SendCalled state.old kind body.now out.old result state.new out.new }
 {
-    if state.len() != IMAGE_SIZE {
+    let Some(image) = state.as_mut_array::<IMAGE_SIZE>() else {
         return BadCall::NotSound.number();
-    }
-    let seat = decode(&*state);
+    };
+    let seat = decode(image);
     let Some(wish) = wish_of(kind) else {
         if seat.is_sound() {
             return BadCall::NoSuchKind.number();
         }
         return BadCall::NotSound.number();
     };
-    keep(seat.send(wish, body, out), state, encode_counts)
+    keep(seat.send(wish, body, out), image, encode_counts)
 }
 
 // A packet arrives: it is handed over, put on the shelf, or refused.
 pub fn tautrobin_arrive(state: &mut [u8], shelf: &mut [u8], packet: &[u8]) -> u64
     ensures { ArriveCalled state.old shelf.old packet.now result state.new shelf.new }
 {
-    if state.len() != IMAGE_SIZE {
+    let Some(image) = state.as_mut_array::<IMAGE_SIZE>() else {
         return BadCall::NotSound.number();
-    }
-    let seat = decode(&*state);
-    keep(seat.arrive(packet, shelf), state, encode)
+    };
+    let seat = decode(image);
+    keep(seat.arrive(packet, shelf), image, encode)
 }
 
 // The ready packet on the shelf that comes first is handed over: its body goes to the output, and its slot is freed.
 pub fn tautrobin_release(state: &mut [u8], shelf: &mut [u8], out: &mut [u8]) -> u64
     ensures { ReleaseCalled state.old shelf.old out.old result state.new shelf.new out.new }
 {
-    if state.len() != IMAGE_SIZE {
+    let Some(image) = state.as_mut_array::<IMAGE_SIZE>() else {
         return BadCall::NotSound.number();
-    }
-    let seat = decode(&*state);
-    keep(seat.release(shelf, out), state, encode)
+    };
+    let seat = decode(image);
+    keep(seat.release(shelf, out), image, encode)
 }

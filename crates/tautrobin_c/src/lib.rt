@@ -1,5 +1,6 @@
 // The four calls, exported to C on numbers and byte slices (document 01, "For the package, which is written in C"). A
-// slice is passed as a pointer and a length.
+// slice is passed as a pointer and a length. They stand beside the library's own because C links an archive, and a Rattle
+// program a library.
 #![tactic(auto)]
 
 ghost use Rattle.tautrobin.specs.Calls.{OpenCalled, SendCalled, ArriveCalled, ReleaseCalled};

@@ -6,7 +6,8 @@ ghost use Rattle.vectors.specs.Vectors.{all, vector};
 ghost use Rattle.vectors.specs.Bytes.{number_at, bytes_of, fields_of};
 ghost use Rattle.std.proofs.lemmas.List.{map-id};
 
-// A number that crosses as WIDTH bytes.
+// A number that crosses as WIDTH bytes. Its two types differ by a size, but std converts bytes for each by a method of its
+// own, and what it says of them names the type.
 pub trait Number: Copy {
     ghost WIDTH: { ℕ };
 
@@ -103,7 +104,8 @@ impl Number for u64 {
     }
 }
 
-// The n numbers from place i on, and 0 above. The callers have found them to be there.
+// The n numbers from place i on, and 0 above. The callers have found them to be there: here and below that is asked of the
+// slice that is lent, since a struct that lends it would owe the same at each method.
 pub fn fields<T: Number>(s: &[u8], i: usize, n: usize) -> [T; 16]
     requires { (n ≤ 16) × (i + T.WIDTH * n ≤ length s.now) }
     ensures { T.numbers result ≡ vector n (λ k. number_at T.WIDTH s.now (i + T.WIDTH * k)) }

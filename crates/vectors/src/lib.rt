@@ -1,5 +1,5 @@
-// Vectors of 16 numbers, one for each seat, and tests over every entry. The tests are folds with no early exit, so that
-// the compiler makes wide code of them.
+// Vectors of 16 numbers, one for each seat, and tests over every entry. Those that fold have no early exit, so that the
+// compiler makes wide code of them.
 #![tactic(auto)]
 
 pub mod bytes;

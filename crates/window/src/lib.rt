@@ -62,7 +62,8 @@ impl Window {
     }
 
     // A number is marked. The callers have found it to be in the window: above run, so that it has a bit, and at most 64
-    // above it, so that the bit is in the word.
+    // above it, so that the bit is in the word. Both are asked of a number beside a window, here and where a seat calls: a
+    // type of the two would be made for one call and taken apart in it.
     pub fn mark(self, number: EditNo) -> Window
         requires { (self.run < number.0) × (number.0 ≤ self.run + 64) }
         ensures { result ≡ marked self number.0 }

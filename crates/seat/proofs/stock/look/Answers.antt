@@ -1,7 +1,6 @@
 -- `look` meets its contract: a packet that is refused, one that does not pass, and one that is counted in.
-use Rattle.std.proofs.Common.{true, false, not, ◌≡◌, refl, sym, ap, ◌∙◌, length}
+use Rattle.std.proofs.Common.{true, false, not, ◌≡◌, refl, sym, ap, ◌∙◌}
 use Rattle.std.specs.Prelude.{Ok}
-use Rattle.shelf.proofs.Slots.{length_slot_at}
 use Rattle.packet.specs.Reading.{read_of}
 use Rattle.packet.proofs.PointNumbers.{point_is_not_zero}
 use Rattle.packet.proofs.Told.{read_refused, message_is_read}
@@ -11,9 +10,6 @@ use Rattle.seat.proofs.Looked.{refused_is_bad, sound_where_passed, packet_is_cou
 use Rattle.seat.specs.Survey.{passes_beside}
 use Rattle.seat.proofs.stock.look.Goals.{In-Ok, After-is_err}
 use Rattle.seat.proofs.stock.look.Goals as goal
-
-pub packet_in-requires : goal.packet_in-requires
-packet_in-requires c = ap length c.slot-slot.ensures ∙ length_slot_at _ _ c.requires.there
 
 -- what was read is the packet on slot i
 read : (c : In-Ok) → record { answer = Ok c.in-Ok.message.heading; past = c.in-Ok.message.past; barrier = c.in-Ok.message.barrier } ≡ read_of (packet_at c.args.shelf.now c.args.i)

@@ -1,6 +1,5 @@
 -- `packet_in` meets its contract.
-use Rattle.std.proofs.Common.{◌≡◌, sym, ap, ◌∙◌}
-use native.Mathlib.Nat.{le_of_eq}
+use Rattle.std.proofs.Common.{◌≡◌, sym, ap, ◌∙◌, arith}
 use lib.ListN.{length-drop}
 use lib.Seq.{take_all}
 use Rattle.shelf.specs.Shelf.{rest_zero, all_zero}
@@ -18,12 +17,12 @@ pub returns-then-not-is_zero : goal.returns-then-not-is_zero
 returns-then-not-is_zero c =
     let slot = c.args.slot.now in
     let tested : c.is_zero.result ≡ rest_zero slot c.end_in-end.result =
-    c.is_zero.ensures ∙ ap all_zero (take_all _ _ (le_of_eq (length-drop _ slot))) in
+    c.is_zero.ensures ∙ ap all_zero (take_all _ _ (omega (arith, length-drop c.end_in-end.result slot))) in
     sym (rest_not_zero slot _ c.end_in-end.ensures (sym tested ∙ c.if-not-is_zero.true))
 
 pub returns : goal.returns
 returns c =
     let slot = c.args.slot.now in
     let tested : c.is_zero.result ≡ rest_zero slot c.end_in-end.result =
-    c.is_zero.ensures ∙ ap all_zero (take_all _ _ (le_of_eq (length-drop _ slot))) in
+    c.is_zero.ensures ∙ ap all_zero (take_all _ _ (omega (arith, length-drop c.end_in-end.result slot))) in
     sym (packet_stands slot _ c.end_in-end.ensures c.if-slot-ne1.false c.if-end-gt-SLOT_SIZE.false (sym tested ∙ c.if-not-is_zero.false))

@@ -5,16 +5,12 @@ use lib.ListN.{length-drop}
 use lib.Seq.{take_all, sets}
 use Rattle.packet.specs.Packet.{body_at}
 use Rattle.packet.specs.Reading.{body_of}
-use Rattle.shelf.proofs.Slots.{length_slot_at}
 use Rattle.seat.specs.HandingOver.{hand_over, barrier_above_past}
 use Rattle.seat.specs.Stock.{packet_in, packet_at}
 use Rattle.seat.proofs.WellRead.{carried}
 use Rattle.seat.proofs.ChosenPacket.{chosen_sizes, chosen_is_due, chosen_edit, chosen_body}
 use Rattle.seat.proofs.ReleaseAnswers.{no_room_answers_13, above_answers_23, releasing_answers_0, refused_release, done_release, body_at_start}
 use Rattle.seat.proofs.taking.hand_out.Goals as goal
-
-pub held_in-packet-requires-clause-whole : goal.held_in-packet-requires-clause-whole
-held_in-packet-requires-clause-whole c = ap length c.slot.ensures ∙ length_slot_at _ _ c.requires.chosen.there
 
 pub edit_in-edit-requires-clause-body : goal.edit_in-edit-requires-clause-body
 edit_in-edit-requires-clause-body c =

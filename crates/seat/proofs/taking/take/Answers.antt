@@ -1,8 +1,7 @@
 -- `take` meets its contract: the chosen packet is well formed.
-use Rattle.std.proofs.Common.{◌≡◌, ap, ◌∙◌, length}
+use Rattle.std.proofs.Common.{◌≡◌, ap, ◌∙◌}
 use borrow.Author.Tests.{eq-eqb}
 use Rattle.packet.specs.Packet.{first_bad_point}
-use Rattle.shelf.proofs.Slots.{length_slot_at}
 use Rattle.packet.proofs.PointNumbers.{passes_where_ok}
 use Rattle.seat.specs.Stock.{packet_in, packet_at}
 use Rattle.seat.proofs.ChosenPacket.{chosen_passes}
@@ -10,8 +9,7 @@ use Rattle.seat.proofs.taking.take.Goals.{After-read_message}
 use Rattle.seat.proofs.taking.take.Goals as goal
 
 pub held_in-requires : goal.held_in-requires
-held_in-requires c =
-    record { whole = ap length c.slot.ensures ∙ length_slot_at _ _ c.requires.there; well_formed = rw c.slot.ensures (chosen_passes _ _ _ c.requires).is_well_formed }
+held_in-requires c = rw c.slot.ensures (chosen_passes _ _ _ c.requires).is_well_formed
 
 -- the packet that was read is the one on slot i
 on_slot : (c : After-read_message) → c.held_in.result.now ≡ packet_at c.args.shelf.now c.args.i

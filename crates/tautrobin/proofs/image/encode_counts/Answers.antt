@@ -8,4 +8,4 @@ pub returns : goal.returns
 unfolding Bytes
 returns c =
     let bytes : Bytes c.args.image.now = λ k. search rules in
-    counts_written c.args.image.now c.requires.0 bytes c.args.seat c.requires.1 (search rules) (search rules) _ _ refl c.put_counts.ensures
+    counts_written c.args.image.now (search rules) bytes c.args.seat c.requires (search rules) (search rules) _ _ refl c.put_counts.ensures
