@@ -18,11 +18,11 @@ use Rattle.std.specs.Prelude.{Option, Some, None}
 use Rattle.answers.specs.Answers.{bare}
 use Rattle.lines.specs.declared.Step.{Step}
 use Rattle.lines.proofs.LongLines.{long_step, long_opening}
-use Rattle.lines.proofs.Cut.{cut_first, no_feed_none}
+use Rattle.lines.proofs.Cut.{cut_first}
 use Rattle.steps.specs.Session.{Session, step_told, opened}
 use Rattle.steps.specs.Memory.{session_in, Bounded, Walks}
 use Rattle.steps.specs.Printed.{line_of, walked, bad_first, walked_from, printed_lines, printed}
-use Rattle.steps.specs.Course.{line_in, for_lines, still, number_at, BoundedAt, Ready, FreshAt, KeptMore, LineTaken}
+use Rattle.steps.specs.Course.{line_in, for_lines, still, number_at, BoundedAt, FreshAt, KeptMore, LineTaken}
 use Rattle.steps.specs.declared.list.Line.{Line}
 use Rattle.steps.specs.declared.list.Stage.{Stage}
 use Rattle.steps.specs.declared.list.Stage.TheVariants.{First, Walking, Ended}
@@ -118,15 +118,6 @@ list_begun session number course walk packets {shelves} goes-on bounded is =
 module _ (course : Course) (first : FreshAt First course) where
   none : line_in course.line ≡ []
   none = λ p. take (first.fresh p) course.line.bytes
-
-  pub start_ready : Ready course
-  start_ready =
-      record {
-        bounded = subst BoundedAt (sym first.stage_is) tt;
-        short = omega (arith, first.fresh);
-        long = first.line_long;
-        no_feed = subst NoFeed (sym none) no_feed_none;
-      }
 
   pub start_prints : (shelves packets text : List ℕ) → still course shelves packets text ≡ printed text
   unfolding still for_lines

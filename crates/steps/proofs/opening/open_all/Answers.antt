@@ -1,8 +1,7 @@
 -- `open_all` meets its contract.
-use Rattle.std.proofs.Common.{◌≡◌, ◌<◌, ◌∙◌, ◌++◌, ℕ, subst, arith}
+use Rattle.std.proofs.Common.{◌<◌, ◌∙◌, arith}
 use Rattle.std.proofs.lemmas.List.{set-append_left}
 use lib.ListN.{length-set}
-use Rattle.steps.specs.Memory.{AllOpened}
 use Rattle.steps.proofs.Opened.{opened_inside, opened_long, one_more_opened}
 use Rattle.steps.proofs.opening.open_all.Invariants.{behind}
 use Rattle.steps.proofs.opening.open_all.Goals as goal
@@ -19,10 +18,3 @@ loop-at-preserved c =
       rw (← set-append_left at.seat-items (behind size.n) at.at c.open_at.result (omega arith))
           (one_more_opened size at.at _ _ c.open_at.result _ less at.invariant.1 at.invariant.2 opened),
     )
-
-pub returns : goal.returns
-returns c =
-    let size = c.args.size in
-    let at = c.loop-at in
-    let all : at.at ≡ size.n = omega (arith, at.invariant.0) in
-    subst (λ (k : ℕ). AllOpened k size.n size.slots (at.seat-items ++ behind size.n) at.memory.shelves) all at.invariant.2

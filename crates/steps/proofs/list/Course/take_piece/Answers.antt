@@ -1,11 +1,8 @@
 -- `take_piece` meets its contract.
 use Rattle.lines.specs.Lines.{line_feed}
 use Rattle.lines.proofs.Places.{searched}
-use Rattle.steps.proofs.Texts.{before_feed, no_feed_at_all, nothing_yet, goes_further, all_taken}
+use Rattle.steps.proofs.Texts.{before_feed, no_feed_at_all, goes_further}
 use Rattle.steps.proofs.list.Course.take_piece.Goals as goal
-
-pub loop-feed-init : goal.loop-feed-init
-loop-feed-init c = nothing_yet _ _ _ _ _ c.requires.ready
 
 pub keep-requires-clause-no_feed : goal.keep-requires-clause-no_feed
 keep-requires-clause-no_feed c = before_feed _ _ (searched line_feed c.loop-feed.rest.now _ c.in-Some.ensures).1
@@ -18,6 +15,3 @@ loop-feed-preserved c =
 
 pub keep-requires-2-clause-no_feed : goal.keep-requires-2-clause-no_feed
 keep-requires-2-clause-no_feed c = no_feed_at_all _ (searched line_feed c.loop-feed.rest.now _ c.in_default.ensures)
-
-pub returns : goal.returns
-returns c = all_taken _ _ _ _ c.args.out.now _ _ _ _ _ _ _ c.loop-feed.invariant c.keep-2.ensures
