@@ -6,9 +6,10 @@ use mathlib.Core.List.{List, [], ◌∷◌, ◌++◌, append-nil}
 use native.Mathlib.Numerals.{one-add}
 use native.Mathlib.Omega.{arith}
 use lib.ListN.{length, get_or, set, take, drop, replicate, length-append, length-replicate, length-set, length-drop, drop_of_length-le}
-use lib.Seq.{length-take-le, take_at, drop_at}
+use lib.Seq.{sets, length-sets, length-take-le, take_at, drop_at}
 use borrow.Rule.Slice.PartMut.{put_mid, same_len_mid, Post-is}
 use Rattle.std.proofs.lemmas.Slice.{take-put_mid}
+use Rattle.vectors.proofs.Numbers.{stands_back}
 use Rattle.shelf.specs.Shelf.{slot_size, slots, slot_at, all_zero, is_free, slot_of, laid, free_slot, rest_zero}
 use Rattle.shelf.proofs.Zeros.{one_byte_not_zero, zeros_are_all_zero, part_is_all_zero, zeros_to_the_end}
 use Rattle.shelf.proofs.Slots.{laid_reads_back}
@@ -91,6 +92,22 @@ module _ (packet slot copied zeros : List ℕ) (short : length packet ≤ slot_s
       let many : length (take (length with_packet - place) (drop place with_packet)) ≡ slot_size - 1 - length packet =
       length-take-le (length with_packet - place) (drop place with_packet) (omega (arith, length-drop place with_packet)) ∙ omega (arith, as_long) in
       ap₂ (λ (a b : List ℕ). a ++ (zeros ++ b)) front back ∙ ap (λ (l : List ℕ). 1 ∷ (packet ++ l)) (append-nil zeros ∙ fill ∙ ap (λ (n : ℕ). replicate n 0) many)
+
+-- the same where the packet was put down byte by byte, which keeps the length, however the first byte and the ends of the
+-- zeros are told
+pub length_put_in : (packet slot filled : List ℕ) (first : ℕ) → length slot ≡ slot_size → filled ≡ sets (set slot 0 first) 1 packet → length filled ≡ slot_size
+length_put_in packet slot filled first long put = ap length put ∙ length-sets (set slot 0 first) 1 packet ∙ length-set slot 0 first ∙ long
+
+pub put_in_turn : (packet slot filled zeros : List ℕ) (first place end : ℕ) → length packet ≤ slot_size - 1 → length slot ≡ slot_size
+    → filled ≡ sets (set slot 0 first) 1 packet → first ≡ 1 → place ≡ 1 + length packet → end ≡ slot_size
+    → zeros ≡ replicate (length (take (end - place) (drop place filled))) 0 → put_mid place (end - place) filled zeros ≡ slot_of packet
+put_in_turn packet slot filled zeros first place end short long put first_is place_is end_is =
+    let room : 1 + length packet ≤ length (set slot 0 1) = omega (arith, length-set slot 0 1 ∙ long) in
+    let same : put_mid 1 (1 + length packet - 1) (set slot 0 1) packet ≡ filled
+    = stands_back (set slot 0 1) 1 (length packet) packet packet refl refl room ∙ sym (rw first_is at put) in
+    let whole : length (put_mid 1 (1 + length packet - 1) (set slot 0 1) packet) ≡ end
+    = ap length same ∙ length_put_in packet slot filled first long put ∙ sym end_is in
+    rw (place_is, ← same, ← whole) (written_in_turn packet slot packet zeros short long refl)
 
 -- a slot with a byte 1, m bytes, and zeros holds these m bytes
 pub slot_holds : (slot : List ℕ) (m : ℕ) → get_or slot 0 0 ≡ 1 → length slot ≡ slot_size → rest_zero slot (1 + m) ≡ true → slot ≡ slot_of (take m (drop 1 slot))

@@ -9,7 +9,8 @@ use lib.Dec.{ltb}
 use lib.ListN.{length, get_or}
 use mathlib.Core.List.{List}
 use Rattle.std.specs.List.{HoldsAt, AllWithin}
-use Rattle.std.specs.Prelude.{Option, Some, None, MatchOption, is_some}
+use Rattle.std.specs.Prelude.{Option, Some, None, MatchOption, IsSomeAnd, is_some}
+use Rattle.vectors.proofs.Numbers.{whole_part}
 use Rattle.shelf.specs.Shelf.{lowest, slot_or_none}
 
 -- r is at most n, the test fails below it, and holds of it where it is below n
@@ -99,3 +100,13 @@ module _ (n i : ℕ) (r : Option ℕ) (is : r ≡ slot_or_none n i) where
   some_is_it at e =
       let same : at ≡ i = same_index i at (ltb i n) (sym is ∙ e) in
       (same, rw same (some_is_below (ap is_some e)))
+
+-- ---- what is handed on as it stands, also where it goes through a range or a closure
+
+-- an index that a closure answers as it was
+pub mapped_to_itself : {Post : ℕ → ℕ → Type 0} (o r : Option ℕ) → MatchOption o (r ≡ None) (λ x. IsSomeAnd r (Post x)) → ((x y : ℕ) → Post x y → y ≡ x) → r ≡ o
+mapped_to_itself None r e same = e
+mapped_to_itself (Some x) None e same = elim e [ ]
+mapped_to_itself (Some x) (Some y) e same = ap Some (same x y e)
+
+pub ruleset as_it_stands = (whole_part, mapped_to_itself)

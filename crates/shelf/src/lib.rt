@@ -67,7 +67,7 @@ pub fn lay(shelf: &mut [u8], i: usize, packet: &[u8])
     let slot = &mut shelf[start..start + SLOT_SIZE];
     let packet_end = 1 + packet.len();
     slot[0] = 1;
-    slot[1..packet_end].copy_from_slice(packet);
+    vectors::bytes::put_bytes(slot, 1, packet);
     slot[packet_end..].fill(0);
 }
 

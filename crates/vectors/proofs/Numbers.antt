@@ -4,14 +4,14 @@ use Prim.Native.Nat.{ℕ, zero, suc, ◌+◌, ◌-◌, ◌*◌, ◌/◌, ◌%◌
 use mathlib.Core.Path.{◌≡◌, refl, sym, ap, ap₂, ◌∙◌}
 use mathlib.Core.Bool.{Bool, ◌&&◌}
 use mathlib.Core.List.{List, [], ◌∷◌, ◌++◌, append_assoc, append-nil}
-use native.Mathlib.Nat.{add-zero, add-suc, suc-add, zero-add, add_comm, mul-zero, mul-suc, mul-le-mul_left, pow-suc, pow-succ', div-div-eq-div-mul, mod-one, mod-eq_of_lt, le_of_suc-le-suc, not-suc-le-zero}
+use native.Mathlib.Nat.{add-zero, add-suc, suc-add, zero-add, add_comm, mul-zero, mul-suc, mul-le-mul_left, pow-suc, pow-succ', div-div-eq-div-mul, mod-one, mod-eq_of_lt, le_of_suc-le-suc, not-suc-le-zero, sub-zero}
 use native.Mathlib.Numerals.{add-one}
 use native.Mathlib.Decide.{ℕ_discrete}
 use native.Mathlib.Omega.{arith}
 use lib.Arith.{mod-mul, digits_div, digits_mod}
 use lib.Dec.{eqb}
 use lib.ListN.{length, get_or, set, take, drop, length-append, get_or-append}
-use lib.Seq.{sets, sets-eq, length-sets, length-take-le, take-suc, take-add, take_at, drop_at, drop-drop, get_or-take, get_or-drop, get_or_at, get_or-append-add}
+use lib.Seq.{sets, sets-eq, length-sets, length-take-le, take-length, take-suc, take-add, take_at, drop_at, drop-drop, get_or-take, get_or-drop, get_or_at, get_or-append-add}
 use borrow.Author.Tests.{eq-eqb, ne_eqb, eqb-true}
 use borrow.Rule.Slice.PartMut.{put_mid, Post-is}
 use Rattle.std.specs.Cmp.Derive.{one_truth}
@@ -106,6 +106,10 @@ stands_back l i n vs now e long inside =
     ∙ sym (append_assoc (take i l) vs (drop (i + length vs) l))
     ∙ sym (sets-eq vs l i (omega (arith, long)))
 
+-- a part of a list from its start to its end is the list
+pub whole_part : {A : Type 0} (l : List A) (from end : ℕ) → from ≡ 0 → end ≡ length l → take (end - from) (drop from l) ≡ l
+whole_part l from end at_start at_end = rw (at_start, at_end, sub-zero, take-length l) refl
+
 -- the loop: after k turns what stands at i is `so_far k`
 pub record Put (l : List ℕ) (i n : ℕ) (so_far : ℕ → List ℕ) (k : ℕ) (now : List ℕ) : Type 0 where
   pub low : k ≤ n
@@ -131,9 +135,12 @@ fields_of_one : (w x : ℕ) → fields_of w (x ∷ []) ≡ bytes_of w x
 unfolding fields_of
 fields_of_one w x = append-nil (bytes_of w x)
 
--- one field more
+-- one field more, and one byte more
 pub fields_more : (w : ℕ) (v : List ℕ) (k : ℕ) → k < length v → fields_of w (take (k + 1) v) ≡ fields_of w (take k v) ++ bytes_of w (get_or v k 0)
 fields_more w v k h = rw (add-one, take-suc v k 0, fields_of_append, fields_of_one)
+
+pub bytes_more : (s : List ℕ) (k : ℕ) → k < length s → take (k + 1) s ≡ take k s ++ (get_or s k 0 ∷ [])
+bytes_more s k h = rw (add-one, take-suc s k 0)
 
 -- ---- written, then read
 

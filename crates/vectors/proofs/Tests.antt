@@ -52,6 +52,14 @@ module _ (a b : List ℕ) where
   unfolding same
   same_of e = all_of _ 16 (λ k h. eq-eqb _ _ (ap (λ (l : List ℕ). get_or l k 0) e))
 
+  pub same_folded : length a ≡ 16 → length b ≡ 16 → fold (λ (ok : Bool) (p : ℕ × ℕ). ok && eqb p.0 p.1) true (zip a b) ≡ same a b
+  unfolding same
+  same_folded la lb =
+      let long : length (zip a b) ≡ 16 = length-zip a b ∙ ap₂ min la lb in
+      fold_is_all (λ (p : ℕ × ℕ). eqb p.0 p.1) (0, 0) true (zip a b)
+      ∙ ap (λ (n : ℕ). all n (λ k. eqb (get_or (zip a b) k (0, 0)).0 (get_or (zip a b) k (0, 0)).1)) long
+      ∙ all_same 16 _ _ (λ k h. ap (λ (p : ℕ × ℕ). eqb p.0 p.1) (get_or-zip a b k (0, 0) (omega arith) (omega arith)))
+
   -- what `==` answers
   pub same_decided : (answer : Bool) → length a ≡ 16 → length b ≡ 16 → answer ≡ pointwise eqb a b → answer ≡ same a b
   same_decided answer la lb e = same_from_decides answer (same a b) (slice_eq-Decides Decides-eqb a b answer e) (same_is la lb, same_of)

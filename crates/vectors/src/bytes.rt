@@ -136,11 +136,13 @@ pub fn put_fields<T: Number>(out: &mut [u8], i: usize, v: &[T])
     }
 }
 
-// The bytes of s go to place i and on. The callers have found room there.
-#[tactic(auto, using(crate::proofs::Numbers::stands_back))]
+// The bytes of s go to place i and on. The callers have found room there. Byte by byte, of which the compiler makes memcpy:
+// of std's `copy_from_slice` it makes memmove, a name more that who links the C library would have to have.
 pub fn put_bytes(out: &mut [u8], i: usize, s: &[u8])
     requires { i + length s.now ≤ length out.old }
     ensures { out.new ≡ sets out.old i s.now }
 {
-    out[i..i + s.len()].copy_from_slice(s);
+    for (k, byte) in s.iter().enumerate() {
+        out[i + k] = *byte;
+    }
 }
