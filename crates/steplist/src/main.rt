@@ -23,14 +23,14 @@ fn walk_all(rt: &(impl Input + Print), memory: &mut Memory, out: &mut [u8; PRINT
         if n == 0 {
             break;
         }
-        let taken = course.take_piece(&text[..n], memory, out);
+        let taken = course.take_piece(&text[..n], &mut memory.shelves, &mut memory.packets, out);
         course = taken.course;
         let written = rt.write_all(&out[..taken.end]).is_ok();
         if !written | course.is_over() {
             break;
         }
     }
-    let end = course.finish(memory, out);
+    let end = course.finish(&mut memory.shelves, &mut memory.packets, out);
     let _ = rt.write_all(&out[..end]);
 }
 

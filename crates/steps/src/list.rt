@@ -5,11 +5,10 @@ ghost use Rattle.lines.specs.Lines.{line_feed, read_opening};
 ghost use Rattle.lines.specs.AnswerLine.{answer_most, Wrote};
 ghost use Rattle.lines.specs.Kept.{line_most, NoFeed};
 ghost use Rattle.steps.specs.Session.{opened};
-ghost use Rattle.steps.specs.Memory.{session_in, Bounded};
+ghost use Rattle.steps.specs.Memory.{session_in, shelves_size, packets_size, Bounded};
 ghost use Rattle.steps.specs.Printed.{bad_first, walked_from, walked, printed};
 ghost use Rattle.steps.specs.Course.{text_of, line_in, for_course, still, number_most, is_done, is_over, number_in, Ready, FreshAt, KeptMore, CourseKept, LineTaken, PieceTaken, Finished};
 
-use super::memory::Memory;
 use super::opening::Size;
 use super::walk::{UNKNOWN, Walk};
 use answers::Report;
@@ -114,10 +113,11 @@ fn refuse_list() -> Answered
 }
 
 // The list goes on with line two.
-fn begin(size: Size, memory: &mut Memory) -> Answered
-    ensures { (number : ℕ) → LineTaken number (walked 1 (opened size.n size.slots)) result memory.new.shelves memory.new.packets }
+fn begin(size: Size, shelves: &mut [u8]) -> Answered
+    requires shelves { length shelves.old ≡ shelves_size }
+    ensures { (number : ℕ) (packets : List ℕ) → LineTaken number (walked 1 (opened size.n size.slots)) result shelves.new packets }
 {
-    let walk = Walk::open(size, memory);
+    let walk = Walk::open(size, shelves);
     Answered {
         course: Course::fresh(Stage::Walking(1, walk)),
         line: None,
@@ -125,8 +125,9 @@ fn begin(size: Size, memory: &mut Memory) -> Answered
 }
 
 // Line one.
-fn take_opening(line: &[u8], memory: &mut Memory) -> Answered
-    ensures { (number : ℕ) → LineTaken number (walked_from (read_opening line.now)) result memory.new.shelves memory.new.packets }
+fn take_opening(line: &[u8], shelves: &mut [u8]) -> Answered
+    requires shelves { length shelves.old ≡ shelves_size }
+    ensures { (number : ℕ) (packets : List ℕ) → LineTaken number (walked_from (read_opening line.now)) result shelves.new packets }
 {
     let Some(Opening { n, slots }) = read_opening(line) else {
         return refuse_list();
@@ -136,18 +137,26 @@ fn take_opening(line: &[u8], memory: &mut Memory) -> Answered
             n: n as u8,
             slots: slots as usize,
         };
-        return begin(size, memory);
+        return begin(size, shelves);
     }
     refuse_list()
 }
 
 // A line after the first.
-fn take_step(walk: Walk, number: u64, line: &[u8], memory: &mut Memory) -> Answered
+fn take_step(
+    walk: Walk,
+    number: u64,
+    line: &[u8],
+    shelves: &mut [u8],
+    packets: &mut [u8],
+) -> Answered
     requires bounded { Bounded walk }
     requires number { number < number_most }
-    ensures { LineTaken number (λ lines. walked number (session_in walk memory.old.shelves memory.old.packets) (line.now ∷ lines)) result memory.new.shelves memory.new.packets }
+    requires shelves { length shelves.old ≡ shelves_size }
+    requires packets { length packets.old ≡ packets_size }
+    ensures { LineTaken number (λ lines. walked number (session_in walk shelves.old packets.old) (line.now ∷ lines)) result shelves.new packets.new }
 {
-    let walked = walk.step(read_step(line), memory);
+    let walked = walk.step(read_step(line), shelves, packets);
     let next = number + 1;
     Answered {
         course: Course::fresh(Stage::Walking(next, walked.walk)),
@@ -188,16 +197,18 @@ impl Course {
     }
 
     // The line that was kept is whole.
-    fn take_line(self, memory: &mut Memory) -> Answered
+    fn take_line(self, shelves: &mut [u8], packets: &mut [u8]) -> Answered
         requires ready { Ready self }
         requires number { number_in self < number_most }
-        ensures { LineTaken (number_in self) (λ lines. for_course self memory.old.shelves memory.old.packets (line_in self.line ∷ lines)) result memory.new.shelves memory.new.packets }
+        requires shelves { length shelves.old ≡ shelves_size }
+        requires packets { length packets.old ≡ packets_size }
+        ensures { LineTaken (number_in self) (λ lines. for_course self shelves.old packets.old (line_in self.line ∷ lines)) result shelves.new packets.new }
     {
         let bytes = self.line.bytes;
         let line = &bytes[..self.line.length];
         match self.stage {
-            Stage::First => take_opening(line, memory),
-            Stage::Walking(number, walk) => take_step(walk, number, line, memory),
+            Stage::First => take_opening(line, shelves),
+            Stage::Walking(number, walk) => take_step(walk, number, line, shelves, packets),
             Stage::Ended => Answered {
                 course: Course::fresh(Stage::Ended),
                 line: None,
@@ -205,19 +216,27 @@ impl Course {
         }
     }
 
-    // A piece of the input is taken. What it prints stands at the start of the output, which has room for it, so that no
-    // piece can fail.
-    pub fn take_piece(self, text: &[u8], memory: &mut Memory, out: &mut [u8]) -> Taken
+    // A piece of the input is taken. What it prints stands at the start of the output, which has room for it. The caller
+    // lends the same two buffers for the whole list, of these lengths, wherever they lie, so that no piece can fail.
+    pub fn take_piece(
+        self,
+        text: &[u8],
+        shelves: &mut [u8],
+        packets: &mut [u8],
+        out: &mut [u8],
+    ) -> Taken
         requires ready { Ready self }
         requires number { number_in self + length text.now ≤ number_most }
+        requires shelves { length shelves.old ≡ shelves_size }
+        requires packets { length packets.old ≡ packets_size }
         requires room { answer_most * length text.now ≤ length out.old }
-        ensures { PieceTaken self text.now memory.old.shelves memory.old.packets result memory.new.shelves memory.new.packets out.new }
+        ensures { PieceTaken self text.now shelves.old packets.old result shelves.new packets.new out.new }
     {
         let mut course = self;
         let mut end = 0;
         let mut rest = text;
         while let Some(feed) = line_end(rest) {
-            let answered = course.keep(&rest[..feed]).take_line(memory);
+            let answered = course.keep(&rest[..feed]).take_line(shelves, packets);
             course = answered.course;
             end = put_line(out, end, answered.line);
             rest = &rest[feed + 1..];
@@ -228,17 +247,19 @@ impl Course {
         }
     }
 
-    // The input has ended: text after the last line feed is a line too.
-    pub fn finish(self, memory: &mut Memory, out: &mut [u8]) -> usize
+    // The input has ended: text after the last line feed is a line too. The caller lends the same buffers.
+    pub fn finish(self, shelves: &mut [u8], packets: &mut [u8], out: &mut [u8]) -> usize
         requires ready { Ready self }
         requires number { number_in self < number_most }
+        requires shelves { length shelves.old ≡ shelves_size }
+        requires packets { length packets.old ≡ packets_size }
         requires room { answer_most ≤ length out.old }
-        ensures { Finished self memory.old.shelves memory.old.packets result out.new }
+        ensures { Finished self shelves.old packets.old result out.new }
     {
         if self.is_done() {
             return 0;
         }
-        let answered = self.take_line(memory);
+        let answered = self.take_line(shelves, packets);
         put_line(out, 0, answered.line)
     }
 

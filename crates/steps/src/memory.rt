@@ -10,8 +10,8 @@ const SHELVES_SIZE: usize = 34304;
 // 256 packets of 67 bytes.
 const PACKETS_SIZE: usize = 17152;
 
-// There is room for every session. Who walks a list lends one for the whole of it, so that no step can fail for want of
-// room.
+// The two buffers of a list, with room for every session, for who owns them and lends both fields for the whole list. A
+// list takes any two slices of these lengths.
 #[derive(Drop)]
 pub struct Memory {
     pub shelves: [u8; SHELVES_SIZE],

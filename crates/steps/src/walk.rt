@@ -1,12 +1,12 @@
 // The session that a step list walks, and its three kinds of step. The functions that ask something of their callers are
 // called once the line's numbers were found to be in range.
-ghost use Rattle.std.specs.Prelude.{◌≡◌, ◌+◌, ◌*◌, ◌≤◌, ◌<◌, ◌==◌, ◌&&◌, take};
+ghost use Rattle.std.specs.Prelude.{◌≡◌, ℕ, ◌+◌, ◌*◌, ◌≤◌, ◌<◌, ◌==◌, ◌&&◌, List, length, take};
 ghost use Rattle.std.specs.List.{position};
 ghost use Rattle.answers.specs.Answers.{bare};
 ghost use Rattle.steps.specs.Session.{send_told, arrive_told, release_told, wish_of, step_told};
-ghost use Rattle.steps.specs.Memory.{shelf_size, session_in, Bounded, Walks, index_in, with_edit, walked_to, SentEmpty};
+ghost use Rattle.steps.specs.Memory.{shelf_size, session_in, shelves_size, packets_size, Bounded, Walks, index_in, with_edit, walked_to, SentEmpty};
 
-use super::memory::{Memory, piece_at};
+use super::memory::piece_at;
 use answers::{Answer, Edit, Report};
 use lines::{Letter, Step};
 use packet::HEAD_LEN;
@@ -134,9 +134,10 @@ impl Walk {
     }
 
     // The seat sends an edit with no body.
-    fn send(self, seat: u32, wish: Wish, memory: &mut Memory) -> Walked
-        requires { Bounded self }
-        ensures { Walks (send_told (session_in self memory.old.shelves memory.old.packets) seat wish) result memory.new.shelves memory.new.packets }
+    fn send(self, seat: u32, wish: Wish, packets: &mut [u8]) -> Walked
+        requires bounded { Bounded self }
+        requires packets { length packets.old ≡ packets_size }
+        ensures { (shelves : List ℕ) → Walks (send_told (session_in self shelves packets.old) seat wish) result shelves packets.new }
     {
         let full = SENDS_MOST <= self.sends;
         if full {
@@ -149,16 +150,25 @@ impl Walk {
         let Some(at) = next.index(seat) else {
             return next.unknown();
         };
-        let room = &mut memory.packets[piece_at(PACKET_MOST, next.letters)];
+        let room = &mut packets[piece_at(PACKET_MOST, next.letters)];
         let sent = send_empty(next.seats[at], wish, room);
         let answer = sent.answer;
         next.with_edit(answer).moved_on(at, sent)
     }
 
     // The packet of that sender and number arrives at the seat.
-    fn arrive(self, seat: u32, sender: u32, number: u32, memory: &mut Memory) -> Walked
-        requires { Bounded self }
-        ensures { Walks (arrive_told (session_in self memory.old.shelves memory.old.packets) seat sender number) result memory.new.shelves memory.new.packets }
+    fn arrive(
+        self,
+        seat: u32,
+        sender: u32,
+        number: u32,
+        packets: &[u8],
+        shelves: &mut [u8],
+    ) -> Walked
+        requires bounded { Bounded self }
+        requires packets { length packets.now ≡ packets_size }
+        requires shelves { length shelves.old ≡ shelves_size }
+        ensures { Walks (arrive_told (session_in self shelves.old packets.now) seat sender number) result shelves.new packets.now }
     {
         let Some(at) = self.index(seat) else {
             return self.unknown();
@@ -167,37 +177,40 @@ impl Walk {
             return self.unknown();
         };
         let seats = self.n as usize;
-        let packets = &memory.packets;
-        let shelves = &mut memory.shelves;
         let packet = &packets[piece_at(PACKET_MOST, i)][..HEAD_LEN + 4 * seats];
         let arrived = self.seats[at].arrive(packet, &mut shelves[self.shelf(at)]);
         self.moved_on(at, arrived)
     }
 
     // The seat releases. Bodies are empty, and so is the output.
-    fn release(self, seat: u32, memory: &mut Memory) -> Walked
-        requires { Bounded self }
-        ensures { Walks (release_told (session_in self memory.old.shelves memory.old.packets) seat) result memory.new.shelves memory.new.packets }
+    fn release(self, seat: u32, shelves: &mut [u8]) -> Walked
+        requires bounded { Bounded self }
+        requires shelves { length shelves.old ≡ shelves_size }
+        ensures { (packets : List ℕ) → Walks (release_told (session_in self shelves.old packets) seat) result shelves.new packets }
     {
         let Some(at) = self.index(seat) else {
             return self.unknown();
         };
-        let released = self.seats[at].release(&mut memory.shelves[self.shelf(at)], &mut []);
+        let released = self.seats[at].release(&mut shelves[self.shelf(at)], &mut []);
         self.moved_on(at, released)
     }
 
     // A line after the first, or none that can be read.
-    pub fn step(self, step: Option<Step>, memory: &mut Memory) -> Walked
-        requires { Bounded self }
-        ensures { Walks (step_told (session_in self memory.old.shelves memory.old.packets) step) result memory.new.shelves memory.new.packets }
+    pub fn step(self, step: Option<Step>, shelves: &mut [u8], packets: &mut [u8]) -> Walked
+        requires bounded { Bounded self }
+        requires shelves { length shelves.old ≡ shelves_size }
+        requires packets { length packets.old ≡ packets_size }
+        ensures { Walks (step_told (session_in self shelves.old packets.old) step) result shelves.new packets.new }
     {
         let Some(step) = step else {
             return self.unknown();
         };
         match step {
-            Step::Send(seat, letter) => self.send(seat, wish_of(letter), memory),
-            Step::Arrive(seat, sender, number) => self.arrive(seat, sender, number, memory),
-            Step::Release(seat) => self.release(seat, memory),
+            Step::Send(seat, letter) => self.send(seat, wish_of(letter), packets),
+            Step::Arrive(seat, sender, number) => self.arrive(
+                seat, sender, number, packets, shelves,
+            ),
+            Step::Release(seat) => self.release(seat, shelves),
         }
     }
 }

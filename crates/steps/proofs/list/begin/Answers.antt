@@ -3,4 +3,4 @@ use Rattle.steps.proofs.Printing.{list_begun}
 use Rattle.steps.proofs.list.begin.Goals as goal
 
 pub returns : goal.returns
-returns c = λ number. list_begun _ _ _ _ _ c.fresh.ensures c.open-walk.ensures.bounded (c.open-walk.ensures.session _)
+returns c = λ number packets. list_begun _ _ _ _ packets c.fresh.ensures c.open-walk.ensures.bounded (c.open-walk.ensures.session packets)

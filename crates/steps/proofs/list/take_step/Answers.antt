@@ -6,5 +6,5 @@ use Rattle.steps.proofs.list.take_step.Goals as goal
 pub returns : goal.returns
 returns c =
     let a = c.args in
-    step_taken a.number a.line.now (session_in a.walk a.memory.now.shelves a.memory.now.packets) c.step-walked.result c.read_step.result c.fresh.result
+    step_taken a.number a.line.now (session_in a.walk a.shelves.now a.packets.now) c.step-walked.result c.read_step.result c.fresh.result
     c.read_step.ensures c.step-walked.ensures c.fresh.ensures

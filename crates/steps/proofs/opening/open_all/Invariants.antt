@@ -11,5 +11,5 @@ behind n = drop n (replicate 16 no_seat)
 abbrev pub invariant-loop-at : goal.invariant-loop-at
 invariant-loop-at l =
     (length l.seat-items ≡ l.size.n)
-    × (length l.memory.shelves ≡ shelves_size)
-    × AllOpened l.at l.size.n l.size.slots (l.seat-items ++ behind l.size.n) l.memory.shelves
+    × (length l.shelves ≡ shelves_size)
+    × AllOpened l.at l.size.n l.size.slots (l.seat-items ++ behind l.size.n) l.shelves
