@@ -33,10 +33,10 @@ impl Seat {
     fn has_sound_windows(self) -> bool
         ensures { result ≡ sound_windows self }
     {
-        (0..16).all(|k| {
+        (0..16).fold(true, |ok, k| {
             let run = self.run[k];
             let ahead = self.ahead[k];
-            Window { run, ahead }.is_sound(self.past[k])
+            ok & Window { run, ahead }.is_sound(self.past[k])
         })
     }
 

@@ -1,6 +1,7 @@
 -- `survey` meets its contract: after i slots it has found what stands on these.
-use Rattle.std.proofs.Common.{◌≡◌, length, sym, ap, ◌∙◌, get_or, [], rules, arith}
-use Rattle.shelf.specs.Shelf.{all_zero, is_free}
+use Rattle.std.proofs.Common.{ℕ, ◌≡◌, ◌<◌, List, length, sym, ap, ◌∙◌, rules, arith, length-take}
+use Rattle.std.proofs.lemmas.List.{get_or-take}
+use Rattle.shelf.specs.Shelf.{slots, all_zero, is_free}
 use Rattle.shelf.proofs.Slots.{slot_in_chunks}
 use Rattle.seat.specs.declared.stock.Stock.{Stock}
 use Rattle.seat.proofs.SlotBySlot.{more_stay_unsound}
@@ -11,22 +12,27 @@ use Rattle.seat.proofs.stock.survey.Goals as goal
 pub loop-i-init : goal.loop-i-init
 loop-i-init c = record { long = search rules; looked = looked_at_none _ _ _ }
 
--- what was tested is slot i
+-- Slot i is there, and is what was tested. The laws of `take` serve a walk over a part of the slots, as a must-fail edit
+-- plants: all but its end is then proved, and it is refused for the slots left out.
+there : (c : After-is_free) → c.loop-i.i < slots c.args.shelf.now
+there c = omega (arith, c.as_chunks.ensures.front_len, length-take {A = List ℕ})
+
 tested : (c : After-is_free) → c.is_free.result ≡ is_free c.args.shelf.now c.loop-i.i
 tested c =
     let chunks = c.as_chunks.ensures in
-    c.is_free.ensures ∙ ap all_zero (ap (λ (slots : _). get_or slots c.loop-i.i []) chunks.front ∙ slot_in_chunks _ _ _ (omega (arith, chunks.front_len)))
+    c.is_free.ensures
+    ∙ ap all_zero (grind (arith, there c, chunks.front, chunks.front_len, slot_in_chunks, get_or-take, length-take {A = List ℕ}))
 
 pub look-requires : goal.look-requires
 look-requires c = record {
-  there = omega (arith, c.as_chunks.ensures.front_len);
+  there = there (goal.at.look-requires c).After-is_free;
   used = sym (tested (goal.at.look-requires c).After-is_free) ∙ c.if-not-is_free.true;
   long = c.loop-i.invariant.long;
   looked = c.loop-i.invariant.looked;
 }
 
 pub returns-then-not-look : goal.returns-then-not-look
-returns-then-not-look c = more_stay_unsound _ _ _ _ (omega (arith, c.as_chunks.ensures.front_len)) c.if-not-look.ensures.looked
+returns-then-not-look c = more_stay_unsound _ _ _ _ (omega (arith, there (goal.at.returns-then-not-look c).After-is_free)) c.if-not-look.ensures.looked
 
 pub loop-i-preserved : goal.loop-i-preserved
 loop-i-preserved c =
@@ -43,4 +49,4 @@ loop-i-preserved c =
     ]
 
 pub returns : goal.returns
-returns c = looked_at_all _ _ _ _ _ c.loop-i.invariant.looked (omega (arith, c.as_chunks.ensures.front_len))
+returns c = looked_at_all _ _ _ _ _ c.loop-i.invariant.looked (omega (arith, c.as_chunks.ensures.front_len, length-take {A = List ℕ}))
