@@ -6,8 +6,10 @@ use native.Mathlib.Omega.{arith}
 use lib.Dec.{eqb}
 use lib.ListN.{length, take, drop}
 use borrow.Author.Tests.{eq-eqb, ne_eqb}
+use denote.Bor.{Bor}
 use Rattle.std.specs.Prelude.{Option, Some, None, MatchOption}
 use Rattle.std.specs.List.{position}
+use Rattle.vectors.proofs.Numbers.{whole_part}
 use Rattle.lines.specs.Lines.{space, words}
 use Rattle.lines.proofs.Places.{FirstAt, searched, behind, behind_is}
 
@@ -21,7 +23,7 @@ end_of_rest byte rest end w =
     }
 
 -- one word alone
-one_word : (line : List ℕ) (end : ℕ) → FirstAt space line end → end ≡ length line → words line ≡ line ∷ []
+pub one_word : (line : List ℕ) (end : ℕ) → FirstAt space line end → end ≡ length line → words line ≡ line ∷ []
 unfolding words
 one_word [] end w e = refl
 one_word (byte ∷ rest) zero w e = absurd (omega arith)
@@ -46,3 +48,13 @@ module _ (line : List ℕ) where
   parted (Some end) e =
       let at = searched space line (Some end) e in
       first_word line end at.1 at.0 ∙ ap (λ (l : List ℕ). take end line ∷ words l) (sym (behind_is line end))
+
+-- ---- what is handed on as it stands, also where it goes through a range or a call
+
+-- one answer, whether an Option holds something or not
+pub either_way : {A : Type 0} {Post : A → Bor (List ℕ) → Type 0} (o : Option A) (r d : Bor (List ℕ)) → MatchOption o (r ≡ d) (λ x. Post x r)
+    → ((x : A) (y : Bor (List ℕ)) → Post x y → y.now ≡ d.now) → r.now ≡ d.now
+either_way None r d e same = ap (λ (b : Bor (List ℕ)). b.now) e
+either_way (Some x) r d e same = same x r e
+
+pub ruleset as_it_stands = (whole_part, either_way)

@@ -1,16 +1,19 @@
 -- The image part by part: the state that is built of the fields read, and the bytes that stand after the parts were put
 -- down one after another.
-use Prim.Native.Nat.{ℕ, ◌+◌, ◌*◌, ◌/◌, ◌%◌}
+use Prim.Native.Nat.{ℕ, ◌+◌, ◌*◌, ◌/◌, ◌%◌, ◌<◌, ◌^◌}
 use mathlib.Core.Path.{◌≡◌, refl, ap, ◌∙◌}
 use mathlib.Core.List.{List, [], ◌∷◌, ◌++◌, append-nil}
 use native.Mathlib.Nat.{zero-add}
+use native.Mathlib.Decide.{dec_lt}
 use native.Mathlib.Omega.{arith}
-use lib.ListN.{length, get_or, set, drop, length-append}
+use lib.ListN.{length, get_or, set, drop, length-append, get_or-eq_default}
 use lib.Seq.{sets, sets-eq, drop-length}
 use Rattle.answers.specs.Answers.{seat_no}
-use Rattle.vectors.specs.Bytes.{fields_of}
-use Rattle.vectors.proofs.Numbers.{length_fields_of, sets_then}
+use Rattle.vectors.specs.Bytes.{number_at, fields_of, Bytes}
+use Rattle.vectors.proofs.Vector.{length_vector, vector_below}
+use Rattle.vectors.proofs.Numbers.{length_fields_of, number_fits, sets_then}
 use Rattle.tautrobin.specs.Image.{image_size, past_at, barrier_at, run_at, ahead_at, fields_at, decoded, numbers_byte, encoded}
+use Rattle.seat.specs.State.{Held}
 use Rattle.seat.specs.declared.Seat.{Seat}
 
 -- ---- a state that was read
@@ -22,6 +25,29 @@ pub decoded_is : (image past barrier run ahead : List ℕ) → past ≡ fields_a
     (decoded image)
 unfolding decoded
 decoded_is image past barrier run ahead is-past is-barrier is-run is-ahead = rw (is-past, is-barrier, is-run, is-ahead)
+
+module _ (image : List ℕ) (bytes : Bytes image) where
+  field_fits : (w at k : ℕ) → get_or (fields_at w image at) k 0 < 256 ^ w
+  field_fits w at k =
+      let long = length_vector 16 (λ j. number_at w image (at + w * j)) in
+      elim (dec_lt k 16) [
+        | yes inside ↦ rw (vector_below 16 (λ j. number_at w image (at + w * j)) k inside inside) (number_fits w image (at + w * k) bytes)
+        | no above ↦ rw (get_or-eq_default (fields_at w image at) 0 {n = k} (omega arith)) (omega (arith, number_fits w image at bytes))
+      ]
+
+  pub decoded_is_held : Held (decoded image)
+  unfolding decoded
+  decoded_is_held =
+      record {
+        past_long = length_vector 16 _;
+        barrier_long = length_vector 16 _;
+        run_long = length_vector 16 _;
+        ahead_long = length_vector 16 _;
+        past_fits = field_fits 2 past_at;
+        barrier_fits = field_fits 2 barrier_at;
+        run_fits = field_fits 2 run_at;
+        ahead_fits = field_fits 8 ahead_at;
+      }
 
 -- ---- a state that is written
 

@@ -1,6 +1,7 @@
 -- `read_opening` meets its contract.
-use Rattle.std.proofs.Common.{ℕ, Option, sym, ap, ap₂, ◌∙◌}
+use Rattle.std.proofs.Common.{ℕ, Option, sym, ap, ap₂, ◌∙◌, rules}
 use Rattle.lines.specs.Lines.{number_of}
+use Rattle.lines.proofs.Words.{as_it_stands}
 use Rattle.lines.proofs.Grammar.{two_of, opening, opening_of_one, opening_is}
 use Rattle.lines.proofs.read_opening.Goals as goal
 
@@ -16,10 +17,12 @@ returns-in_err-read_number c =
 pub returns-in_err-read_number-2 : goal.returns-in_err-read_number-2
 returns-in_err-read_number-2 c =
     c.from_residual-in_err-read_number-2.ensures
-    ∙ ap₂ (two_of opening) (sym c.in_ok-read_number.was ∙ c.read_number.ensures) (sym c.in_err-read_number-2.was ∙ c.read_number-2.ensures)
+    ∙ ap₂ (two_of opening) (sym c.in_ok-read_number.was ∙ c.read_number.ensures)
+    (sym c.in_err-read_number-2.was ∙ c.read_number-2.ensures ∙ ap number_of (search (rules, as_it_stands)))
     ∙ sym (opening_is _ _ _ c.in_ok-n.ensures)
 
 pub returns : goal.returns
 returns c =
-    ap₂ (two_of opening) (sym c.in_ok-read_number.was ∙ c.read_number.ensures) (sym c.in_ok-read_number-2.was ∙ c.read_number-2.ensures)
+    ap₂ (two_of opening) (sym c.in_ok-read_number.was ∙ c.read_number.ensures)
+    (sym c.in_ok-read_number-2.was ∙ c.read_number-2.ensures ∙ ap number_of (search (rules, as_it_stands)))
     ∙ sym (opening_is _ _ _ c.in_ok-n.ensures)
