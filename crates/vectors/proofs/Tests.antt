@@ -28,6 +28,15 @@ or_is_zero a b =
     ]
 
 module _ (a b : List ℕ) where
+  -- a test of two entries, gathered over both vectors
+  pairs_folded : (test : ℕ → ℕ → Bool) → length a ≡ 16 → length b ≡ 16
+      → fold (λ (ok : Bool) (p : ℕ × ℕ). ok && test p.0 p.1) true (zip a b) ≡ all 16 (λ k. test (get_or a k 0) (get_or b k 0))
+  pairs_folded test la lb =
+      let long : length (zip a b) ≡ 16 = length-zip a b ∙ ap₂ min la lb in
+      fold_is_all (λ (p : ℕ × ℕ). test p.0 p.1) (0, 0) true (zip a b)
+      ∙ ap (λ (n : ℕ). all n (λ k. test (get_or (zip a b) k (0, 0)).0 (get_or (zip a b) k (0, 0)).1)) long
+      ∙ all_same 16 _ _ (λ k h. ap (λ (p : ℕ × ℕ). test p.0 p.1) (get_or-zip a b k (0, 0) (omega arith) (omega arith)))
+
   pub within_at : within a b ≡ true → (k : ℕ) → k < 16 → get_or a k 0 ≤ get_or b k 0
   unfolding within
   within_at e k h = leb-true _ _ (all_at _ 16 k e h)
@@ -38,11 +47,7 @@ module _ (a b : List ℕ) where
 
   pub within_folded : length a ≡ 16 → length b ≡ 16 → fold (λ (ok : Bool) (p : ℕ × ℕ). ok && leb p.0 p.1) true (zip a b) ≡ within a b
   unfolding within
-  within_folded la lb =
-      let long : length (zip a b) ≡ 16 = length-zip a b ∙ ap₂ min la lb in
-      fold_is_all (λ (p : ℕ × ℕ). leb p.0 p.1) (0, 0) true (zip a b)
-      ∙ ap (λ (n : ℕ). all n (λ k. leb (get_or (zip a b) k (0, 0)).0 (get_or (zip a b) k (0, 0)).1)) long
-      ∙ all_same 16 _ _ (λ k h. ap (λ (p : ℕ × ℕ). leb p.0 p.1) (get_or-zip a b k (0, 0) (omega arith) (omega arith)))
+  within_folded = pairs_folded leb
 
   pub same_is : length a ≡ 16 → length b ≡ 16 → same a b ≡ true → a ≡ b
   unfolding same
@@ -54,11 +59,7 @@ module _ (a b : List ℕ) where
 
   pub same_folded : length a ≡ 16 → length b ≡ 16 → fold (λ (ok : Bool) (p : ℕ × ℕ). ok && eqb p.0 p.1) true (zip a b) ≡ same a b
   unfolding same
-  same_folded la lb =
-      let long : length (zip a b) ≡ 16 = length-zip a b ∙ ap₂ min la lb in
-      fold_is_all (λ (p : ℕ × ℕ). eqb p.0 p.1) (0, 0) true (zip a b)
-      ∙ ap (λ (n : ℕ). all n (λ k. eqb (get_or (zip a b) k (0, 0)).0 (get_or (zip a b) k (0, 0)).1)) long
-      ∙ all_same 16 _ _ (λ k h. ap (λ (p : ℕ × ℕ). eqb p.0 p.1) (get_or-zip a b k (0, 0) (omega arith) (omega arith)))
+  same_folded = pairs_folded eqb
 
   -- what `==` answers
   pub same_decided : (answer : Bool) → length a ≡ 16 → length b ≡ 16 → answer ≡ pointwise eqb a b → answer ≡ same a b
